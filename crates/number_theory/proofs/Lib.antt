@@ -1,0 +1,3 @@
+pub mod CoprimeLemmas
+pub mod IntervalLemmas
+pub mod ResidueLemmas

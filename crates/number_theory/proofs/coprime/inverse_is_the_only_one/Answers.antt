@@ -1,0 +1,5 @@
+use Rattle.number_theory.proofs.CoprimeLemmas.{IsCoprime-from_inverse, same_inverse}
+use Rattle.number_theory.proofs.coprime.inverse_is_the_only_one.Goals as goal
+
+pub returns : goal.returns
+returns c = record { coprime = IsCoprime-from_inverse; only = same_inverse }

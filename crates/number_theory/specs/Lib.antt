@@ -1,0 +1,3 @@
+pub mod Coprime
+pub mod Interval
+pub mod Residue

@@ -1,0 +1,30 @@
+ghost use Rattle.std.specs.Prelude.{◌≡◌, ℕ, ℤ, pos, ◌+◌, ◌*◌, ◌%◌, ◌<◌, neg_ℤ, ◌+ℤ◌, ◌-ℤ◌, ◌*ℤ◌};
+ghost use Rattle.number_theory.specs.Residue.{residue};
+
+/// A residue is below its modulus, and is its own residue.
+pub fn residue_of_residue()
+    ensures below { (x : ℤ) (m : ℕ) → 0 < m → residue x m < m }
+    ensures same { (x : ℤ) (m : ℕ) → 0 < m → residue (pos (residue x m)) m ≡ residue x m }
+{}
+
+/// The residue of a sum is that of the sum of the residues.
+pub fn residue_of_sum()
+    ensures { (x y : ℤ) (m : ℕ) → 0 < m → residue (x +ℤ y) m ≡ (residue x m + residue y m) % m }
+{}
+
+/// The residue of a difference is that of the difference of the residues.
+pub fn residue_of_difference()
+    ensures { (x y : ℤ) (m : ℕ)
+        → 0 < m
+        → residue (x -ℤ y) m ≡ residue (pos (residue x m) -ℤ pos (residue y m)) m }
+{}
+
+/// The residue of -x is that of minus the residue of x.
+pub fn residue_of_negation()
+    ensures { (x : ℤ) (m : ℕ) → 0 < m → residue (neg_ℤ x) m ≡ residue (neg_ℤ (pos (residue x m))) m }
+{}
+
+/// The residue of a product is that of the product of the residues.
+pub fn residue_of_product()
+    ensures { (x y : ℤ) (m : ℕ) → 0 < m → residue (x *ℤ y) m ≡ (residue x m * residue y m) % m }
+{}
