@@ -1,0 +1,3 @@
+pub mod DigitValues
+pub mod FrontDigits
+pub mod LineCounts

@@ -1,0 +1,13 @@
+//! What all readers of texts share: digits with their value up to a limit, and lines.
+//!
+//! Texts come in as bytes, which need not be UTF-8. Each reader stands beside the definition that it meets,
+//! exactly in both directions. The crate stands on nothing; every reader stands on it.
+#![tactic(auto)]
+
+mod digits;
+mod lines;
+#[cfg(test)]
+mod tests;
+
+pub use digits::{digits_len, number_up_to};
+pub use lines::line_feeds;

@@ -1,0 +1,29 @@
+use super::{digits_len, line_feeds, number_up_to};
+
+const GREATEST: u128 = 170141183460469231731687303715884105727;
+
+#[test]
+fn digits_at_the_front(rt: HostRuntime) {
+    assert_eq!(rt; digits_len(b"0..9"), 1);
+    assert_eq!(rt; digits_len(b"007"), 3);
+    assert_eq!(rt; digits_len(b"x1"), 0);
+    assert_eq!(rt; digits_len(b""), 0);
+}
+
+#[test]
+fn numbers_up_to_a_limit(rt: HostRuntime) {
+    assert_eq!(rt; number_up_to(b"0009", 9), Some(9));
+    assert_eq!(rt; number_up_to(b"10", 9), None);
+    let greatest = number_up_to(b"00170141183460469231731687303715884105727", GREATEST);
+    assert_eq!(rt; greatest, Some(GREATEST));
+    let above = number_up_to(b"170141183460469231731687303715884105728", GREATEST);
+    assert_eq!(rt; above, None);
+    let far_above = number_up_to(b"1000000000000000000000000000000000000000000", u128::MAX);
+    assert_eq!(rt; far_above, None);
+}
+
+#[test]
+fn line_feeds_alone_count(rt: HostRuntime) {
+    assert_eq!(rt; line_feeds(b"a\r\nb\n\n"), 3);
+    assert_eq!(rt; line_feeds(b"a\r\x0c"), 0);
+}
