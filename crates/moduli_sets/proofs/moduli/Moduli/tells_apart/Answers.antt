@@ -1,0 +1,12 @@
+use Rattle.moduli_sets.specs.Moduli.{set_of}
+use Rattle.moduli_sets.proofs.SetLemmas.{IsModuliSet-of}
+use Rattle.moduli_sets.proofs.VectorLemmas.{same_from_information, same_from_vectors}
+use Rattle.moduli_sets.proofs.moduli.Moduli.tells_apart.Goals as goal
+
+pub returns : goal.returns
+returns c =
+    let kept = c.args.self.now in
+    record {
+      information = λ x y. same_from_information (set_of kept) x y (IsModuliSet-of kept);
+      all = λ x y. same_from_vectors (set_of kept) x y (IsModuliSet-of kept);
+    }

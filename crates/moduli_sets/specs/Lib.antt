@@ -1,0 +1,7 @@
+pub mod Kept
+pub mod Moduli
+pub mod Name
+pub mod Set
+pub mod Vector
+pub use Rattle.number_theory.specs.Coprime
+pub use Rattle.number_theory.specs.Residue

@@ -1,0 +1,20 @@
+//! Sets of moduli, and integers as lists of residues.
+//!
+//! A set has information moduli, whose residues tell an integer in range, and redundant moduli, by which
+//! wrong residues are found. In come the names of sets and integers in range, out go moduli, inverses and
+//! vectors of residues. The crate stands on `number_theory`; every crate of the machine stands on it.
+#![tactic(auto)]
+
+mod counts;
+mod digits;
+mod moduli;
+mod set_name;
+#[cfg(test)]
+mod tests;
+mod vector;
+
+pub use counts::Counts;
+pub use digits::Digits;
+pub use moduli::Moduli;
+pub use set_name::SetName;
+pub use vector::Vector;
