@@ -1,0 +1,2 @@
+pub mod Modulus
+pub use Rattle.number_theory.specs.Residue
