@@ -1,0 +1,7 @@
+pub use Rattle.plain_text.specs.Digits
+pub use Rattle.plain_text.specs.Lines
+pub mod Tokens
+pub mod Scan
+pub mod Fronts
+pub mod Placed
+pub mod Steps

@@ -1,0 +1,16 @@
+//! Tokens of source texts.
+//!
+//! In comes a source text as bytes, out go its tokens in order, each the longest that begins at its place, or
+//! the first byte or number that is no token. The crate stands on `plain_text`; the parser stands on it.
+#![tactic(auto)]
+
+mod gap;
+mod lexer;
+mod symbol;
+#[cfg(test)]
+mod tests;
+mod token;
+mod word;
+
+pub use lexer::{LexFault, one_scan, tokens};
+pub use token::{Token, TokenKind};
