@@ -1,0 +1,72 @@
+use Rattle.std.proofs.Common.{List, map, ℕ, inl, inr, refl}
+use Rattle.std.specs.String.{string_bytes}
+use Rattle.outside.specs.Runs.{WroteAll-none}
+use Rattle.rnm_engine.specs.declared.status.Status.TheVariants.{Usage, Unread, TooLong}
+use Rattle.rnm_engine.specs.declared.status.Status.{Status}
+use Rattle.rnm_engine.specs.Answer.{file_limit, unread_lines, too_long_lines, usage_lines, IsAnswer, IsSourceAnswer, IsStray}
+use Rattle.rnm_engine.proofs.Endings.{some_held, held_whole, held_longer, held_missing, answer_usage, answer_missing, answer_longer, answer_source, stray_unread, leaves_answer, leaves_stray, leaves_source, completes_source, told_file}
+use Rattle.rnm_engine.proofs.answer.rnm.Goals as goal
+
+pub returns-in_default-clause-answer : goal.returns-in_default-clause-answer
+returns-in_default-clause-answer g c =
+    let words = map string_bytes c.args.words.now in
+    let before = (g.S.Shelf.state c.args.shelf.now).faults in
+    let held = some_held (g.S.Shelf.state c.args.shelf.now).told in
+    (held.0, held.1, leaves_answer g.K.Sink.took g.K.Sink.state c.args.sink.now (IsAnswer held.0 words) (IsStray before before words) Usage refl usage_lines c.finish.result c.finish.new.sink (answer_usage held.0 words c.in_default.ensures) (inl c.finish.ensures))
+
+pub returns-in-TooLong-clause-answer : goal.returns-in-TooLong-clause-answer
+returns-in-TooLong-clause-answer g c =
+    let words = map string_bytes c.args.words.now in
+    let before = (g.S.Shelf.state c.args.shelf.now).faults in
+    let after = (g.S.Shelf.state c.fetch.new.self).faults in
+    let name = c.in-Some.name.now in
+    let held = held_longer (g.S.Shelf.state c.args.shelf.now).told name file_limit c.in-TooLong.ensures.leaves.1 in
+    (held.0, held.1, leaves_answer g.K.Sink.took g.K.Sink.state c.args.sink.now (IsAnswer held.0 words) (IsStray before after words) TooLong refl (too_long_lines name) c.finish_with_name.result c.finish_with_name.new.sink (answer_longer held.0 words name c.in-Some.ensures held.2.0 held.2.1 held.2.2) c.finish_with_name.ensures)
+
+pub returns-in-Failed-clause-answer : goal.returns-in-Failed-clause-answer
+returns-in-Failed-clause-answer g c =
+    let told = (g.S.Shelf.state c.args.shelf.now).told in
+    let words = map string_bytes c.args.words.now in
+    let before = (g.S.Shelf.state c.args.shelf.now).faults in
+    let after = (g.S.Shelf.state c.fetch.new.self).faults in
+    let name = c.in-Some.name.now in
+    let result = c.finish_with_name-in-Failed.result in
+    let new = c.finish_with_name-in-Failed.new.sink in
+    let ends = c.finish_with_name-in-Failed.ensures in
+    elim c.in-Failed.ensures.leaves.1 [
+      | inl (missing, same) ↦
+          let held = held_missing told name missing in
+          (held.0, held.1, leaves_answer g.K.Sink.took g.K.Sink.state c.args.sink.now (IsAnswer held.0 words) (IsStray before after words) Unread refl (unread_lines name) result new (answer_missing held.0 words name c.in-Some.ensures held.2) ends)
+      | inr (there, rose) ↦
+          let held = some_held told in
+          (held.0, held.1, leaves_stray g.K.Sink.took g.K.Sink.state c.args.sink.now (IsAnswer held.0 words) (IsStray before after words) (unread_lines name) result new (stray_unread before after words name rose c.in-Some.ensures) ends)
+    ]
+
+pub returns-in-Whole-clause-answer : goal.returns-in-Whole-clause-answer
+returns-in-Whole-clause-answer g c =
+    let words = map string_bytes c.args.words.now in
+    let before = (g.S.Shelf.state c.args.shelf.now).faults in
+    let after = (g.S.Shelf.state c.fetch.new.self).faults in
+    let name = c.in-Some.name.now in
+    let text = c.fetch.new.into.items in
+    let result = c.run_source.result in
+    let new = c.run_source.new.sink in
+    let held = held_whole (g.S.Shelf.state c.args.shelf.now).told name text c.in-Whole.ensures.leaves.1 in
+    let answer = λ (pieces : List (List ℕ)) (status : Status) (source : IsSourceAnswer text pieces status). answer_source held.0 words name c.in-Some.ensures text pieces status held.2 c.in-Whole.ensures.leaves.0 source in
+    let ends = rw c.as_slice.ensures.value at c.run_source.ensures in
+    (held.0, held.1, leaves_source g.K.Sink.took g.K.Sink.state c.args.sink.now (IsAnswer held.0 words) (IsStray before after words) text result new answer ends)
+
+pub returns-in-Whole-clause-complete : goal.returns-in-Whole-clause-complete
+returns-in-Whole-clause-complete g c held told no_fetch_fault no_put_fault =
+    let words = map string_bytes c.args.words.now in
+    let name = c.in-Some.name.now in
+    let text = c.fetch.new.into.items in
+    let file = told_file (g.S.Shelf.state c.args.shelf.now).told held name text told c.in-Whole.ensures.leaves.1 in
+    let answer = λ (pieces : List (List ℕ)) (status : Status) (source : IsSourceAnswer text pieces status). answer_source held words name c.in-Some.ensures text pieces status file c.in-Whole.ensures.leaves.0 source in
+    let ends = rw c.as_slice.ensures.value at c.run_source.ensures in
+    completes_source g.K.Sink.took g.K.Sink.state c.args.sink.now (IsAnswer held words) text c.run_source.result c.run_source.new.sink answer ends no_put_fault
+
+pub returns-clause-answer : goal.returns-clause-answer
+returns-clause-answer g c =
+    let held = some_held (g.S.Shelf.state c.args.shelf.now).told in
+    (held.0, held.1, WroteAll-none c.args.sink.now)

@@ -1,0 +1,15 @@
+use Rattle.std.proofs.Common.{inl}
+use Rattle.rnm_engine.specs.declared.status.Status.TheVariants.{Ok}
+use Rattle.rnm_engine.specs.ThinMeaning.{prints_of}
+use Rattle.rnm_engine.specs.ThinView.{program_view}
+use Rattle.rnm_engine.specs.Answer.{print_lines, last_lines}
+use Rattle.rnm_engine.proofs.Endings.{puts_after, fails_before}
+use Rattle.rnm_engine.proofs.answer.run_program.Goals as goal
+
+pub returns-in-Done : goal.returns-in-Done
+returns-in-Done g c =
+    inl (puts_after g.K.Sink.took g.K.Sink.state c.args.sink.now c.run.new.sink (print_lines (prints_of (program_view c.args.program.now))) last_lines Ok c.finish_run.result c.finish_run.new.sink c.in-Done.ensures c.finish_run.ensures)
+
+pub returns-in-Failed : goal.returns-in-Failed
+returns-in-Failed g c =
+    inl (fails_before g.K.Sink.took g.K.Sink.state c.args.sink.now (print_lines (prints_of (program_view c.args.program.now))) last_lines Ok c.run.new.sink c.in-Failed.ensures)
