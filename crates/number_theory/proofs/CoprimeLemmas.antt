@@ -1,8 +1,9 @@
 -- Laws of coprime numbers, and of the product of pairwise coprime moduli.
-use Rattle.std.proofs.Common.{◌≡◌, ℕ, zero, suc, ◌+◌, ◌-◌, ◌*◌, ◌/◌, ◌%◌, ◌<◌, ◌≤◌, List, [], ◌∷◌, map, All, refl, sym, ap, ◌∙◌, subst, arith, ℤ, pos, neg_ℤ, ◌+ℤ◌, ◌≤ℤ◌, ◌<ℤ◌, take, drop, get_or}
+use Rattle.std.proofs.Common.{◌≡◌, ℕ, zero, suc, ◌+◌, ◌-◌, ◌*◌, ◌/◌, ◌%◌, ◌<◌, ◌≤◌, ◌≢◌, cond, eq-eqb, inl, inr, List, [], ◌∷◌, map, All, refl, sym, ap, ◌∙◌, subst, arith, ℤ, pos, neg_ℤ, ◌+ℤ◌, ◌≤ℤ◌, ◌<ℤ◌, take, drop, get_or}
 use Rattle.std.specs.Int.{◌∣◌, IsGcd}
 use Rattle.std.specs.List.{AllByRecursion as ByRecursion}
 use Rattle.std.proofs.lemmas.Int.{ints, by_lt_z}
+use Rattle.std.proofs.lemmas.Bool.{ne_eqb, cases_eq}
 use Rattle.std.proofs.lemmas.List.{length-take, length-drop, get_or-take, get_or-drop}
 use Rattle.std.proofs.lemmas.List.Elements.{recursion_from_All}
 use Rattle.std.proofs.lemmas.Nat.{mod-mul-add, mul-mod_second}
@@ -10,7 +11,7 @@ use Rattle.std.proofs.lemmas.Nat.Gcd.{dvd-zero, dvd_trans, le_of_dvd, IsGcd-from
 use Rattle.std.proofs.Math.Nat.{dvd-mul_left, dvd-mul_right, one-dvd, mul-dvd-mul_left, mul-div_cancel', one-mul, zero-mul, mul-zero, mul_comm, dvd-add_iff_right, mod-lt, div-add-mod', mul-lt-mul_of_pos_right, dvd-mod_iff, mod-eq_of_lt, mul-one, dvd-mul_right_of_dvd}
 use borrow.Author.Differences.{up, down}
 use Rattle.number_theory.specs.Residue.{residue}
-use Rattle.number_theory.specs.Coprime.{IsCoprime, IsInverse, ArePairwiseCoprime, product}
+use Rattle.number_theory.specs.Coprime.{IsCoprime, IsInverse, ArePairwiseCoprime, product, inverse_below, inverse_of}
 use Rattle.number_theory.proofs.ResidueLemmas.{residue_turns}
 
 -- ---- coprime numbers
@@ -62,6 +63,28 @@ pub same_inverse : (a m y z : ℕ) → IsInverse a m y → IsInverse a m z → y
 same_inverse a m y z h k =
     let turned : y * (a * z) ≡ z * (a * y) = omega arith in
     times_one a m y z h.small k.leaves_one ∙ ap (λ n. n % m) turned ∙ sym (times_one a m z y k.small h.leaves_one)
+
+-- the search stops at a number that leaves 1, and else goes on below
+inverse_below-here : (a m n : ℕ) → (a * n) % m ≡ 1 → inverse_below a m (suc n) ≡ n
+unfolding inverse_below
+inverse_below-here a m n one = ap (λ b. cond b n (inverse_below a m n)) (eq-eqb _ _ one)
+
+inverse_below-past : (a m n : ℕ) → (a * n) % m ≢ 1 → inverse_below a m (suc n) ≡ inverse_below a m n
+unfolding inverse_below
+inverse_below-past a m n other = ap (λ b. cond b n (inverse_below a m n)) (ne_eqb _ _ other)
+
+-- the search finds it, once it has come that far
+inverse_below-is : (a m y n : ℕ) → IsInverse a m y → y < n → n ≤ m → inverse_below a m n ≡ y
+unfolding inverse_below
+inverse_below-is a m y zero h below within = absurd (omega arith)
+inverse_below-is a m y (suc n) h below within =
+    elim (cases_eq y n) [
+      | inl here ↦ inverse_below-here a m n (ap (λ k. (a * k) % m) (sym here) ∙ h.leaves_one) ∙ sym here
+      | inr other ↦ inverse_below-past a m n (λ one. other (same_inverse a m y n h (record { small = omega arith; leaves_one = one }))) ∙ inverse_below-is a m y n h (omega arith) (omega arith)
+    ]
+
+pub inverse_of-is : (a m y : ℕ) → IsInverse a m y → inverse_of a m ≡ y
+inverse_of-is a m y h = inverse_below-is a m y m h h.small (omega arith)
 
 pub IsCoprime-one : (m : ℕ) → IsCoprime m 1
 IsCoprime-one m = (one-dvd m, one-dvd 1, λ d p q. q)

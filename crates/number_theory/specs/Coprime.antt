@@ -1,5 +1,5 @@
 -- Coprime numbers, products and inverses.
-use Rattle.std.specs.Prelude.{◌≡◌, ℕ, ◌*◌, ◌%◌, ◌<◌, List, [], ◌∷◌, AllPairs}
+use Rattle.std.specs.Prelude.{◌≡◌, ℕ, zero, suc, ◌*◌, ◌%◌, ◌<◌, ◌==◌, List, [], ◌∷◌, AllPairs, if◌then◌else◌}
 use Rattle.std.specs.Int.{IsGcd}
 
 -- no divisor in common but 1
@@ -19,3 +19,12 @@ product (m ∷ ms) = m * product ms
 pub record IsInverse (a m y : ℕ) : Type 0 where
   pub small : y < m
   pub leaves_one : (a * y) % m ≡ 1
+
+-- the greatest number below n with which a leaves 1 modulo m; 0 where there is none
+unfoldable pub inverse_below : ℕ → ℕ → ℕ → ℕ
+inverse_below a m zero = 0
+inverse_below a m (suc n) = if (a * n) % m == 1 then n else inverse_below a m n
+
+-- the inverse of a modulo m; 0 where a has none
+abbrev pub inverse_of : ℕ → ℕ → ℕ
+inverse_of a m = inverse_below a m m

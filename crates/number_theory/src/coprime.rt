@@ -1,17 +1,18 @@
 ghost use Rattle.std.specs.Prelude.{◌≡◌, ℕ, ℤ, pos, neg_ℤ, ◌*◌, ◌<◌, ◌+ℤ◌, ◌≤ℤ◌, ◌<ℤ◌, List, map, All};
 ghost use Rattle.std.specs.Int.{◌∣◌};
 ghost use Rattle.number_theory.specs.Residue.{residue};
-ghost use Rattle.number_theory.specs.Coprime.{IsCoprime, IsInverse, ArePairwiseCoprime, product};
+ghost use Rattle.number_theory.specs.Coprime.{IsCoprime, IsInverse, ArePairwiseCoprime, product, inverse_of};
 
 /// A number that divides a product and is coprime to one factor divides the other.
 pub fn coprime_factor_divides_other()
     ensures { (m a b : ℕ) → IsCoprime m a → m ∣ a * b → m ∣ b }
 {}
 
-/// A number with an inverse is coprime to the modulus, and has no other inverse.
+/// A number with an inverse is coprime to the modulus, and has no other inverse: `inverse_of` finds it.
 pub fn inverse_is_the_only_one()
     ensures coprime { (a m y : ℕ) → IsInverse a m y → IsCoprime a m }
     ensures only { (a m y z : ℕ) → IsInverse a m y → IsInverse a m z → y ≡ z }
+    ensures found { (a m y : ℕ) → IsInverse a m y → inverse_of a m ≡ y }
 {}
 
 /// Where each of pairwise coprime moduli divides a number, so does their product.

@@ -1,5 +1,9 @@
-use Rattle.number_theory.proofs.CoprimeLemmas.{IsCoprime-from_inverse, same_inverse}
+use Rattle.number_theory.proofs.CoprimeLemmas.{IsCoprime-from_inverse, same_inverse, inverse_of-is}
 use Rattle.number_theory.proofs.coprime.inverse_is_the_only_one.Goals as goal
 
 pub returns : goal.returns
-returns c = record { coprime = IsCoprime-from_inverse; only = same_inverse }
+returns c = record {
+  coprime = IsCoprime-from_inverse;
+  only = same_inverse;
+  found = inverse_of-is;
+}
