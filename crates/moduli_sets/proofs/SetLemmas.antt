@@ -5,8 +5,8 @@ use Rattle.std.proofs.lemmas.Bool.{and_parts, eqb-true, ne_eqb, cases_eq, false�
 use Rattle.std.proofs.lemmas.List.{get_or_default, get_or-take, length-take-le}
 use Rattle.std.proofs.lemmas.List.Elements.{All-from_recursion}
 use borrow.Author.Tests.{ltb-true, leb-true}
-use Rattle.number_theory.specs.Coprime.{IsCoprime, IsInverse, ArePairwiseCoprime, product}
-use Rattle.number_theory.proofs.CoprimeLemmas.{IsCoprime-from_inverse}
+use Rattle.number_theory.specs.Coprime.{inverse_of, IsCoprime, IsInverse, ArePairwiseCoprime, product}
+use Rattle.number_theory.proofs.CoprimeLemmas.{IsCoprime-from_inverse, inverse_of-is}
 use Rattle.moduli_sets.specs.declared.moduli.Moduli.{Moduli}
 use Rattle.moduli_sets.specs.Kept.{each_below, fits_16_bits, meets_rules, is_inverse, has_inverses, is_natural, is_kept}
 use Rattle.moduli_sets.specs.Moduli.{set_of}
@@ -126,6 +126,9 @@ bound-of kept = (kept_parts kept).3
 
 pub IsInverse-of : (kept : Moduli) (s i : ℕ) → s ≢ i → s < length (set_of kept).moduli → i < length (set_of kept).moduli → IsInverse (slice_index (set_of kept).moduli s) (slice_index (set_of kept).moduli i) (slice_index (slice_index_or kept.inverses s []) i)
 IsInverse-of kept s i = has_inverses-at (set_of kept).moduli kept.inverses s i (kept_parts kept).2
+
+pub inverse_of-kept : (kept : Moduli) (s i : ℕ) → s ≢ i → s < length (set_of kept).moduli → i < length (set_of kept).moduli → slice_index (slice_index_or kept.inverses s []) i ≡ inverse_of (slice_index (set_of kept).moduli s) (slice_index (set_of kept).moduli i)
+inverse_of-kept kept s i apart s_in i_in = sym (inverse_of-is _ _ _ (IsInverse-of kept s i apart s_in i_in))
 
 -- the numbers of the set are those that are kept
 pub modulus-of : (kept : Moduli) (i : ℕ) → i < length (set_of kept).moduli → slice_index (set_of kept).moduli i ≡ slice_index kept.moduli i

@@ -7,6 +7,7 @@
 
 mod counts;
 mod digits;
+mod kind;
 mod moduli;
 mod set_name;
 #[cfg(test)]
@@ -15,6 +16,7 @@ mod vector;
 
 pub use counts::Counts;
 pub use digits::Digits;
-pub use moduli::Moduli;
+pub use kind::Kind;
+pub use moduli::{Moduli, residue_of};
 pub use set_name::SetName;
 pub use vector::Vector;

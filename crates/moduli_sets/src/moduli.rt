@@ -1,5 +1,5 @@
 ghost use Rattle.std.specs.Prelude.{◌≡◌, ◌≢◌, ◌<◌, ℤ, pos, length, slice_index, true};
-ghost use Rattle.number_theory.specs.Coprime.{IsInverse};
+ghost use Rattle.number_theory.specs.Coprime.{IsInverse, inverse_of};
 ghost use Rattle.number_theory.specs.Residue.{residue};
 ghost use Rattle.moduli_sets.specs.Kept.{is_kept};
 ghost use Rattle.moduli_sets.specs.Set.{IsInRange, IsModulus, IsModuliSet, information, radius, range_bound};
@@ -26,7 +26,7 @@ pub struct Moduli {
 impl Moduli {
     ghost use Rattle.moduli_sets.specs.Moduli.{set_of};
     ghost use Rattle.moduli_sets.specs.Name.{set_of_name};
-    ghost use Rattle.moduli_sets.specs.declared.set_name.SetName.TheVariants.{Pocket};
+    ghost use Rattle.moduli_sets.specs.declared.set_name.SetName.TheVariants.{Pocket, Desk, Hall};
 
     /// The set of the table that has this name.
     pub fn of(name: SetName) -> Moduli
@@ -34,6 +34,8 @@ impl Moduli {
     {
         match name {
             SetName::Pocket => Moduli::pocket(),
+            SetName::Desk => Moduli::desk(),
+            SetName::Hall => Moduli::hall(),
         }
     }
 
@@ -60,6 +62,64 @@ impl Moduli {
                 [0; ROOM],
             ],
             bound: 97,
+        }
+    }
+
+    #[tactic(auto, unfolding(crate::specs::Kept::is_kept))]
+    fn desk() -> Moduli
+        ensures { set_of result ≡ set_of_name Desk }
+    {
+        Moduli {
+            moduli: [239, 241, 247, 251, 253, 255, 256, 257, 0, 0, 0, 0],
+            count: 8,
+            info: 5,
+            inverses: [
+                [0, 120, 216, 230, 18, 239, 15, 157, 0, 0, 0, 0],
+                [120, 0, 41, 25, 21, 91, 17, 16, 0, 0, 0, 0],
+                [30, 201, 0, 188, 42, 223, 199, 77, 0, 0, 0, 0],
+                [20, 217, 62, 0, 126, 191, 51, 214, 0, 0, 0, 0],
+                [222, 221, 206, 126, 0, 127, 85, 64, 0, 0, 0, 0],
+                [15, 155, 31, 63, 127, 0, 255, 128, 0, 0, 0, 0],
+                [225, 225, 55, 201, 169, 1, 0, 256, 0, 0, 0, 0],
+                [93, 226, 173, 42, 190, 128, 1, 0, 0, 0, 0, 0],
+                [0; ROOM],
+                [0; ROOM],
+                [0; ROOM],
+                [0; ROOM],
+            ],
+            bound: 451727098179,
+        }
+    }
+
+    #[tactic(auto, unfolding(crate::specs::Kept::is_kept))]
+    fn hall() -> Moduli
+        ensures { set_of result ≡ set_of_name Hall }
+    {
+        Moduli {
+            moduli: [
+                32707, 32713, 32717, 32719, 32749, 32767, 32768, 32769, 0, 0, 0, 0,
+            ],
+            count: 8,
+            info: 5,
+            inverses: [
+                [0, 5452, 9815, 19086, 14815, 23483, 26859, 24841, 0, 0, 0, 0],
+                [27256, 0, 8179, 5453, 11826, 29733, 19065, 14629, 0, 0, 0, 0],
+                [22895, 24535, 0, 16359, 5117, 1966, 1285, 18275, 0, 0, 0, 0],
+                [
+                    13628, 27261, 16359, 0, 20741, 21162, 10031, 19006, 0, 0, 0, 0,
+                ],
+                [
+                    17911, 20900, 27605, 11997, 0, 23665, 13797, 14746, 0, 0, 0, 0,
+                ],
+                [9267, 3029, 30754, 11588, 9097, 0, 32767, 16384, 0, 0, 0, 0],
+                [5898, 13680, 31434, 22703, 18960, 1, 0, 32768, 0, 0, 0, 0],
+                [7913, 18109, 14471, 13742, 18012, 16384, 1, 0, 0, 0, 0, 0],
+                [0; ROOM],
+                [0; ROOM],
+                [0; ROOM],
+                [0; ROOM],
+            ],
+            bound: 18754376393575156082078,
         }
     }
 
@@ -120,8 +180,10 @@ impl Moduli {
         requires differ { s ≢ i }
         requires s_in { s < length (set_of self.now).moduli }
         requires i_in { i < length (set_of self.now).moduli }
-        ensures { IsInverse (slice_index (set_of self.now).moduli s)
+        ensures inverse { IsInverse (slice_index (set_of self.now).moduli s)
             (slice_index (set_of self.now).moduli i) result }
+        ensures value { result ≡ inverse_of (slice_index (set_of self.now).moduli s)
+            (slice_index (set_of self.now).moduli i) }
     {
         self.inverses[s][i]
     }
@@ -139,8 +201,8 @@ impl Moduli {
     }
 }
 
-/// The residue of x for the modulus m.
-fn residue_of(x: i128, m: u32) -> u32
+/// The residue of x for the modulus m: its remainder after the floor quotient, below m.
+pub fn residue_of(x: i128, m: u32) -> u32
     requires { 0 < m }
     ensures { result ≡ residue x m }
 {

@@ -6,6 +6,10 @@ ghost use Rattle.moduli_sets.specs.Name.{word_of_name};
 pub enum SetName {
     /// Information moduli 13 15, redundant moduli 16 17 19.
     Pocket,
+    /// Information moduli 239 241 247 251 253, redundant moduli 255 256 257.
+    Desk,
+    /// Information moduli 32707 32713 32717 32719 32749, redundant moduli 32767 32768 32769.
+    Hall,
 }
 
 impl SetName {
@@ -16,6 +20,8 @@ impl SetName {
     {
         match text {
             b"pocket" => Some(SetName::Pocket),
+            b"desk" => Some(SetName::Desk),
+            b"hall" => Some(SetName::Hall),
             _ => None,
         }
     }
