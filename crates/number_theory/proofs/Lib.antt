@@ -1,3 +1,5 @@
 pub mod CoprimeLemmas
 pub mod IntervalLemmas
+pub mod InverseLemmas
+pub mod RemainderLemmas
 pub mod ResidueLemmas

@@ -10,10 +10,10 @@ mod residues;
 
 pub use coprime::{
     coprime_factor_divides_other, equal_residues_make_equal, inverse_is_the_only_one,
-    pairwise_coprime_product_divides,
+    one_number_has_the_residues, pairwise_coprime_product_divides,
 };
 pub use intervals::product_between;
 pub use residues::{
-    residue_of_difference, residue_of_negation, residue_of_product, residue_of_residue,
-    residue_of_sum,
+    quotient_and_residue, residue_of_difference, residue_of_negation, residue_of_product,
+    residue_of_residue, residue_of_sum,
 };

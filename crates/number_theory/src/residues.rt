@@ -1,5 +1,5 @@
 ghost use Rattle.std.specs.Prelude.{◌≡◌, ℕ, ℤ, pos, ◌+◌, ◌*◌, ◌%◌, ◌<◌, neg_ℤ, ◌+ℤ◌, ◌-ℤ◌, ◌*ℤ◌};
-ghost use Rattle.number_theory.specs.Residue.{residue};
+ghost use Rattle.number_theory.specs.Residue.{quotient, residue};
 
 /// A residue is below its modulus, and is its own residue.
 pub fn residue_of_residue()
@@ -27,4 +27,9 @@ pub fn residue_of_negation()
 /// The residue of a product is that of the product of the residues.
 pub fn residue_of_product()
     ensures { (x y : ℤ) (m : ℕ) → 0 < m → residue (x *ℤ y) m ≡ (residue x m * residue y m) % m }
+{}
+
+/// An integer is its floor quotient times the modulus, and its residue.
+pub fn quotient_and_residue()
+    ensures { (x : ℤ) (m : ℕ) → 0 < m → x ≡ (quotient x m *ℤ pos m) +ℤ pos (residue x m) }
 {}
