@@ -1,3 +1,4 @@
 pub mod DigitValues
 pub mod FrontDigits
 pub mod LineCounts
+pub mod WholeNumbers

@@ -1,13 +1,16 @@
-//! What all readers of texts share: digits with their value up to a limit, and lines.
+//! What all readers of texts share: digits with their value up to a limit, an optional
+//! minus before them, and lines.
 //!
 //! Texts come in as bytes, which need not be UTF-8. Each reader stands beside the definition that it meets,
 //! exactly in both directions. The crate stands on nothing; every reader stands on it.
 #![tactic(auto)]
 
 mod digits;
+mod integers;
 mod lines;
 #[cfg(test)]
 mod tests;
 
 pub use digits::{digits_len, number_up_to};
+pub use integers::{integer_up_to, is_integer, unsigned_part};
 pub use lines::line_feeds;

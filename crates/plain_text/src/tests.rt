@@ -1,4 +1,4 @@
-use super::{digits_len, line_feeds, number_up_to};
+use super::{digits_len, integer_up_to, is_integer, line_feeds, number_up_to};
 
 const GREATEST: u128 = 170141183460469231731687303715884105727;
 
@@ -26,4 +26,29 @@ fn numbers_up_to_a_limit(rt: HostRuntime) {
 fn line_feeds_alone_count(rt: HostRuntime) {
     assert_eq!(rt; line_feeds(b"a\r\nb\n\n"), 3);
     assert_eq!(rt; line_feeds(b"a\r\x0c"), 0);
+}
+
+#[test]
+fn integers_up_to_a_limit(rt: HostRuntime) {
+    for (word, value) in [
+        (b"-0".as_slice(), Some(Some(0))),
+        (b"-97", Some(Some(-97))),
+        (b"97", Some(Some(97))),
+        (b"-98", Some(None)),
+        (b"-", None),
+        (b"", None),
+        (b"--5", None),
+        (b"12x", None),
+        (
+            b"123456789012345678901234567890123456789012345678901234567890",
+            Some(None),
+        ),
+        (
+            b"-000000000000000000000000000000000000000000000000000000000097",
+            Some(Some(-97)),
+        ),
+    ] {
+        let read = is_integer(word).then(|| integer_up_to(word, 97));
+        assert_eq!(rt; read, value);
+    }
 }
