@@ -1,5 +1,6 @@
 -- The named sets.
-use Rattle.std.specs.Prelude.{ℕ, List, [], ◌∷◌, codes}
+use Rattle.std.specs.Prelude.{ℕ, List, [], ◌∷◌, codes, find, Option}
+use Rattle.std.specs.Str.{bytes_eq}
 use Rattle.moduli_sets.specs.declared.set_name.SetName.{SetName}
 use Rattle.moduli_sets.specs.declared.set_name.SetName.TheVariants.{Pocket, Desk, Hall}
 use Rattle.moduli_sets.specs.Set.{ModuliSet}
@@ -15,3 +16,7 @@ abbrev pub word_of_name : SetName → List ℕ
 word_of_name Pocket = codes "pocket"
 word_of_name Desk = codes "desk"
 word_of_name Hall = codes "hall"
+
+-- the set that a word names
+abbrev pub set_named : List ℕ → Option SetName
+set_named word = find (λ name. bytes_eq word (word_of_name name)) (Pocket ∷ (Desk ∷ (Hall ∷ [])))

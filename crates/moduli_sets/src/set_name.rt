@@ -1,5 +1,5 @@
 ghost use Rattle.std.specs.Prelude.{◌≡◌, IfSome, IfNone};
-ghost use Rattle.moduli_sets.specs.Name.{word_of_name};
+ghost use Rattle.moduli_sets.specs.Name.{set_named, word_of_name};
 
 /// The sets that have a name.
 #[derive(Clone, Copy, Debug, PartialEq, Eq)]
@@ -16,6 +16,7 @@ impl SetName {
     /// The set that a word names. None exactly where the text is none of the names.
     pub fn named(text: &[u8]) -> Option<SetName>
         ensures found { IfSome result (λ name. text.now ≡ word_of_name name) }
+        ensures value { result ≡ set_named text.now }
         ensures none { IfNone result ((name : SetName) → text.now ≡ word_of_name name → ⊥) }
     {
         match text {
