@@ -1,2 +1,3 @@
 pub mod Modulus
+pub mod ModulusLaws
 pub use Rattle.number_theory.specs.Residue

@@ -1,15 +1,26 @@
 -- The moduli of the channel types.
-use Rattle.std.specs.Prelude.{ℕ, ◌≤◌, nat_le, ◌&&◌, if◌then◌else◌}
-use Rattle.std.proofs.Common.{arith}
-use Rattle.std.proofs.lemmas.Bool.Decides.{nat_tests}
+use Rattle.std.specs.Prelude.{ℕ, ◌+◌, ◌-◌, ◌^◌, nat_le, ◌&&◌, if◌then◌else◌}
 
 -- the modulus of `Plain<P>`: P where it is 2 to 65,535, and otherwise 2
 abbrev pub plain_modulus : ℕ → ℕ
 plain_modulus p = if nat_le 2 p && nat_le p 65535 then p else 2
 
--- it fits 16 bits, whatever p is
-pub le-plain_modulus : (p : ℕ) → 2 ≤ plain_modulus p
-le-plain_modulus p = grind (arith, nat_tests)
+-- the modulus of `Ones<K>`: 2 ^ K - 1 where K is 2 to 16, and otherwise 3
+abbrev pub ones_modulus : ℕ → ℕ
+ones_modulus k = if nat_le 2 k && nat_le k 16 then 2 ^ k - 1 else 3
 
-pub plain_modulus-le : (p : ℕ) → plain_modulus p ≤ 65535
-plain_modulus-le p = grind (arith, nat_tests)
+-- the modulus of `Power<K>`: 2 ^ K where K is 1 to 15, and otherwise 2
+abbrev pub power_modulus : ℕ → ℕ
+power_modulus k = if nat_le 1 k && nat_le k 15 then 2 ^ k else 2
+
+-- the modulus of `Plus<K>`: 2 ^ K + 1 where K is 1 to 15, and otherwise 3
+abbrev pub plus_modulus : ℕ → ℕ
+plus_modulus k = if nat_le 1 k && nat_le k 15 then 2 ^ k + 1 else 3
+
+-- the number of bits of a residue in `Ones<K>`
+abbrev pub ones_bits : ℕ → ℕ
+ones_bits k = if nat_le 2 k && nat_le k 16 then k else 2
+
+-- the number of bits that aren't carried out in `Power<K>` and `Plus<K>`
+abbrev pub power_bits : ℕ → ℕ
+power_bits k = if nat_le 1 k && nat_le k 15 then k else 1

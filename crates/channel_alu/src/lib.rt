@@ -1,14 +1,24 @@
-//! The arithmetic of one residue channel.
+//! The arithmetic of one residue channel, and the operations that every channel performs.
 //!
 //! A channel computes with residues of one modulus and knows nothing of the other channels. In come
-//! residues below the modulus, out goes the residue of their sum, difference or product. The crate
-//! stands on `number_theory` alone.
+//! residues below the modulus, out goes the residue of what was computed. There are four kinds, which
+//! differ in the way in which a sum or a product is brought back below the modulus: by division, by
+//! adding the carry, by dropping it, by subtracting it. The crate stands on `number_theory` alone.
 #![tactic(auto)]
 
+mod bits;
 mod channel;
+mod ones;
+mod operation;
 mod plain;
+mod plus;
+mod power;
 #[cfg(test)]
 mod tests;
 
 pub use channel::Channel;
+pub use ones::Ones;
+pub use operation::{MicroOp, Place};
 pub use plain::Plain;
+pub use plus::Plus;
+pub use power::Power;

@@ -1,4 +1,5 @@
-ghost use Rattle.channel_alu.specs.Modulus.{plain_modulus, le-plain_modulus, plain_modulus-le};
+ghost use Rattle.channel_alu.specs.Modulus.{plain_modulus};
+ghost use Rattle.channel_alu.specs.ModulusLaws.{le-plain_modulus, plain_modulus-le};
 
 use crate::Channel;
 
@@ -16,19 +17,7 @@ impl<const P: u32> Channel for Plain<P> {
         if 2 <= P && P <= 65535 { P } else { 2 }
     }
 
-    fn add(a: u32, b: u32) -> u32 {
-        (a + b) % Self::modulus()
-    }
-
-    fn sub(a: u32, b: u32) -> u32 {
-        if b <= a {
-            a - b
-        } else {
-            a + Self::modulus() - b
-        }
-    }
-
-    fn mul(a: u32, b: u32) -> u32 {
-        a * b % Self::modulus()
+    fn reduce(x: u32) -> u32 {
+        x % Self::modulus()
     }
 }
