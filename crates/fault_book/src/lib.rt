@@ -1,0 +1,12 @@
+//! Faults of channels, as a book that says which answers are wrong.
+//!
+//! A fault is an answer of a channel, told by its number, and the value that stands in its place. In come
+//! entries, out goes the value for an answer, where there is one. The crate stands on nothing here; the
+//! lanes ask it at each answer.
+#![tactic(auto)]
+
+mod faults;
+#[cfg(test)]
+mod tests;
+
+pub use faults::Faults;
