@@ -1,0 +1,12 @@
+use Rattle.std.proofs.Common.{◌≡◌, ◌++◌, map, take, drop}
+use Rattle.lane_bank.specs.Lane.{answer_of, lane_after}
+use Rattle.lane_bank.proofs.column.perform_in_all.Given as goal
+
+-- the lanes so far have performed the operation, and the others are as they were
+abbrev pub invariant-loop-i : goal.invariant-loop-i
+invariant-loop-i g l =
+    let old = g.B.Bank.lanes_of l.fn.bank in
+    record {
+      lanes : g.B.Bank.lanes_of l.bank ≡ map (lane_after l.faults l.op) (take l.i old) ++ drop l.i old;
+      column : l.column ≡ map (answer_of l.faults l.op) (take l.i old);
+    }
