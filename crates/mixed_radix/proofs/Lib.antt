@@ -1,0 +1,5 @@
+pub mod ChosenLemmas
+pub mod DigitLemmas
+pub mod GarnerLemmas
+pub mod SignLemmas
+pub mod ValueLemmas
