@@ -1,0 +1,5 @@
+pub mod DistanceLemmas
+pub mod LawLemmas
+pub mod PartLemmas
+pub mod ProjectionLemmas
+pub mod VerdictLemmas

@@ -1,0 +1,185 @@
+-- The integer in range that has the residues of some channels, and the verdicts that it leads to.
+use Rattle.std.proofs.Common.{◌≡◌, ◌≢◌, ℕ, zero, suc, ◌+◌, ◌-◌, ◌*◌, ◌%◌, ◌^◌, ◌<◌, ◌≤◌, List, [], ◌∷◌, map, length, drop, get_or, slice_index, All, refl, sym, ap, ◌∙◌, subst, arith, ℤ, pos, ◌+ℤ◌, ◌-ℤ◌}
+use Rattle.std.specs.List.{range_with_len, remove, AllByRecursion as ByRecursion}
+use Rattle.std.proofs.lemmas.Int.{ints, by_lt_z}
+use Rattle.std.proofs.lemmas.List.{get_or-map, length-map, take_all}
+use Rattle.std.proofs.lemmas.List.Elements.{All-map, All-weaker, recursion_from_All}
+use Rattle.std.proofs.Math.Nat.{mul-one, mul_comm, mul-le-mul}
+use Rattle.std.proofs.Math.Seq.{drop-cons}
+use Rattle.number_theory.specs.Coprime.{product}
+use Rattle.number_theory.specs.Residue.{residue, AreResidues, IsNumberOf}
+use Rattle.number_theory.proofs.CoprimeLemmas.{same_from_residues}
+use Rattle.number_theory.proofs.ResidueLemmas.{residue_is}
+use Rattle.moduli_sets.specs.Set.{ModuliSet, IsInRange, IsModulus, IsModuliSet, range_bound}
+use Rattle.moduli_sets.specs.Vector.{vector_of}
+use Rattle.mixed_radix.specs.Chosen.{IsChoice, AreBelow, chosen}
+use Rattle.mixed_radix.specs.Digits.{digits, digits_value}
+use Rattle.mixed_radix.proofs.DigitLemmas.{digits_value-digits}
+use Rattle.mixed_radix.proofs.ChosenLemmas.{AreBelow-range, AreBelow-remove, ArePairwiseCoprime-chosen, product-chosen_le, get_or-chosen, length-chosen}
+use Rattle.mixed_radix.proofs.SignLemmas.{chosen-range}
+use Rattle.redundant_decoder.specs.Projection.{IsIntegerOf}
+use Rattle.redundant_decoder.specs.Verdict.{IsCorrection, IsVerdict}
+use Rattle.redundant_decoder.specs.declared.decoder.Verdict.TheVariants.{Clean}
+use Rattle.redundant_decoder.proofs.PartLemmas.{remove-map}
+use Rattle.redundant_decoder.proofs.VerdictLemmas.{length-vector, IsCorrection-from_remove}
+
+-- ---- chosen channels
+map_chosen : (f : ℕ → ℕ) (which ms : List ℕ) → ByRecursion (λ c. c < length ms) which → chosen which (map f ms) ≡ map f (chosen which ms)
+map_chosen f [] ms h = refl
+map_chosen f (c ∷ which) ms h =
+    let head : get_or (map f ms) c 0 ≡ f (get_or ms c 0) = get_or-map f ms c 0 0 h.0 in
+    let tail = map_chosen f which ms h.1 in
+    cc
+
+-- channels may be chosen before a map or after it
+chosen-map : (f : ℕ → ℕ) (which ms : List ℕ) → AreBelow (length ms) which → chosen which (map f ms) ≡ map f (chosen which ms)
+chosen-map f which ms below = map_chosen f which ms (recursion_from_All (λ c. c < length ms) which below)
+
+AreModuli-chosen : (which ms : List ℕ) → AreBelow (length ms) which → All IsModulus ms → All IsModulus (chosen which ms)
+AreModuli-chosen which ms below moduli =
+    All-map IsModulus (slice_index ms) which (All-weaker (λ c. c < length ms) (λ c. IsModulus (get_or ms c 0)) (λ c h. moduli c 0 h) which below)
+
+-- all channels, and all but one
+pub chosen-all : (xs : List ℕ) (n : ℕ) → length xs ≡ n → chosen (range_with_len 0 n) xs ≡ xs
+chosen-all xs n e = chosen-range n xs (omega arith) ∙ take_all n xs (omega arith)
+
+pub chosen-without : (xs : List ℕ) (n i : ℕ) → length xs ≡ n → chosen (remove (range_with_len 0 n) i) xs ≡ remove xs i
+chosen-without xs n i e =
+    sym (remove-map (slice_index xs) (range_with_len 0 n) i) ∙ ap (λ ys. remove ys i) (chosen-all xs n e)
+
+-- ---- the product of the chosen moduli
+product-drop_le : (ms : List ℕ) (k : ℕ) → ByRecursion IsModulus ms → product (drop k ms) ≤ product ms
+product-drop_le [] zero h = omega arith
+product-drop_le [] (suc k) h = omega arith
+product-drop_le (m ∷ ms) zero h = omega arith
+product-drop_le (m ∷ ms) (suc k) h =
+    let one : 1 * product (drop k ms) ≤ m * product ms = mul-le-mul (omega (arith, h.0.at_least_two)) (product-drop_le ms k h.1) in
+    omega arith
+
+-- one modulus more
+pub product_more : (which ms : List ℕ) (n : ℕ) → 0 < n → n ≤ length which → product (drop n (chosen which ms)) * get_or ms (get_or which (n - 1) 0) 0 ≡ product (drop (n - 1) (chosen which ms))
+product_more which ms n positive h =
+    let cs = chosen which ms in
+    let k = n - 1 in
+    let turn : suc k ≡ n = omega arith in
+    let front : product (drop k cs) ≡ get_or cs k 0 * product (drop (suc k) cs) = ap product (drop-cons cs k 0 (omega (arith, length-chosen which ms))) in
+    mul_comm (product (drop n cs)) (get_or ms (get_or which k 0) 0)
+    ∙ ap (λ m. m * product (drop n cs)) (sym (get_or-chosen which ms k (omega arith)))
+    ∙ ap (λ j. get_or cs k 0 * product (drop j cs)) (sym turn)
+    ∙ sym front
+
+-- is below 2 to the power of 127
+pub product_fits : (set : ModuliSet) (which : List ℕ) (k : ℕ) → IsModuliSet set → IsChoice which → AreBelow (length set.moduli) which → product (drop k (chosen which set.moduli)) < 2 ^ 127
+product_fits set which k rules choice below =
+    let cs = chosen which set.moduli in
+    let moduli = recursion_from_All IsModulus cs (AreModuli-chosen which set.moduli below rules.moduli) in
+    omega (arith, product-drop_le cs k moduli, product-chosen_le which set.moduli choice below rules.coprime rules.moduli, rules.fits)
+
+-- ---- the integer of chosen channels
+-- a number less a multiple of the moduli's product has its residues
+residues-less_product : (ms : List ℕ) (n q : ℕ) → ByRecursion IsModulus ms → map (residue (pos n -ℤ pos (product ms * q))) ms ≡ map (λ m. n % m) ms
+residues-less_product [] n q h = refl
+residues-less_product (m ∷ ms) n q h =
+    let p = product ms in
+    let regroup : (m * p) * q ≡ p * (m * q) = omega arith in
+    let turns : (m * p) * q ≡ (p * q) * m = omega arith in
+    let less = pos n -ℤ pos ((m * p) * q) in
+    let back : less +ℤ pos ((p * q) * m) ≡ pos n = omega (arith, ints, turns) in
+    let head : residue less m ≡ n % m = residue_is less m (p * q) n (omega (arith, h.0.at_least_two)) back in
+    let tail : map (residue less) ms ≡ map (λ a. n % a) ms =
+    ap (λ e. map (residue (pos n -ℤ pos e)) ms) regroup ∙ residues-less_product ms n (m * q) h.1 in
+    cc
+
+residues_less : (ms : List ℕ) (n : ℕ) → All IsModulus ms → map (residue (pos n -ℤ pos (product ms))) ms ≡ map (λ m. n % m) ms
+residues_less ms n moduli =
+    ap (λ e. map (residue (pos n -ℤ pos e)) ms) (sym (mul-one (product ms))) ∙ residues-less_product ms n 1 (recursion_from_All IsModulus ms moduli)
+
+-- the number that the digits of residues write is the number of these residues
+pub IsNumberOf-value : (ms rs ds : List ℕ) (y : ℕ) → (n : ℕ) × IsNumberOf ms rs n × (ds ≡ digits ms n) → y ≡ digits_value ms ds → IsNumberOf ms rs y
+IsNumberOf-value ms rs ds y number e =
+    subst (IsNumberOf ms rs) (sym (e ∙ ap (digits_value ms) number.2 ∙ digits_value-digits ms number.0 number.1.small)) number.1
+
+-- their number, where it is in range
+pub IsIntegerOf-number : (set : ModuliSet) (which v : List ℕ) (n : ℕ) → AreBelow (length set.moduli) which → IsNumberOf (chosen which set.moduli) (chosen which v) n → n ≤ range_bound set → IsIntegerOf set which v (pos n)
+IsIntegerOf-number set which v n below number within = record {
+  in_range = record { low = omega (arith, ints); high = omega (arith, ints) };
+  residues = chosen-map (residue (pos n)) which set.moduli below ∙ number.residues;
+}
+
+-- or their number less the product, where that is
+pub IsIntegerOf-less_product : (set : ModuliSet) (which v : List ℕ) (n p : ℕ) → IsModuliSet set → AreBelow (length set.moduli) which → IsNumberOf (chosen which set.moduli) (chosen which v) n → p ≡ product (chosen which set.moduli) → p ≤ n + range_bound set → IsIntegerOf set which v (pos n -ℤ pos p)
+IsIntegerOf-less_product set which v n p rules below number e within =
+    let cs = chosen which set.moduli in
+    let small = number.small in
+    let same : map (residue (pos n -ℤ pos p)) cs ≡ map (λ m. n % m) cs =
+    ap (λ k. map (residue (pos n -ℤ pos k)) cs) e ∙ residues_less cs n (AreModuli-chosen which set.moduli below rules.moduli) in
+    record {
+      in_range = record { low = omega (arith, ints); high = omega (arith, ints) };
+      residues = chosen-map (residue (pos n -ℤ pos p)) which set.moduli below ∙ same ∙ number.residues;
+    }
+
+-- and else none
+pub IsIntegerOf-none : (set : ModuliSet) (which v : List ℕ) (n p : ℕ) → IsModuliSet set → IsChoice which → AreBelow (length set.moduli) which → IsNumberOf (chosen which set.moduli) (chosen which v) n → p ≡ product (chosen which set.moduli) → range_bound set < n → n + range_bound set < p → (x : ℤ) → IsIntegerOf set which v x → ⊥
+IsIntegerOf-none set which v n p rules choice below number e above far x is =
+    let cs = chosen which set.moduli in
+    let coprime = ArePairwiseCoprime-chosen which set.moduli choice below rules.coprime in
+    let same : map (residue x) cs ≡ map (residue (pos n)) cs =
+    sym (chosen-map (residue x) which set.moduli below) ∙ is.residues ∙ sym number.residues in
+    let less : map (residue (pos n -ℤ pos (product cs))) cs ≡ map (residue x) cs =
+    residues_less cs n (AreModuli-chosen which set.moduli below rules.moduli) ∙ sym same in
+    let small = number.small in
+    let low = is.in_range.low in
+    let high = is.in_range.high in
+    by_lt_z x (pos 0)
+    (λ negative. let here = same_from_residues cs (pos n -ℤ pos (product cs)) x coprime less (omega (arith, ints)) (omega (arith, ints)) in
+    absurd (omega (arith, ints)))
+    (λ natural. let here = same_from_residues cs x (pos n) coprime same (omega (arith, ints)) (omega (arith, ints)) in
+    absurd (omega (arith, ints)))
+
+-- ---- verdicts
+-- channels of all
+pub AreBelow-all : (n : ℕ) (which : List ℕ) → which ≡ range_with_len 0 n → AreBelow n which
+AreBelow-all n which e = subst (AreBelow n) (sym e) (AreBelow-range n n (omega arith))
+
+pub AreBelow-without : (n i : ℕ) (which : List ℕ) → which ≡ remove (range_with_len 0 n) i → AreBelow n which
+AreBelow-without n i which e = subst (AreBelow n) (sym e) (AreBelow-remove n (range_with_len 0 n) i (AreBelow-range n n (omega arith)))
+
+length-of : (set : ModuliSet) (v : List ℕ) → AreResidues set.moduli v → length v ≡ length set.moduli
+length-of set v residues = sym (length-vector set.moduli v (pos 0) residues) ∙ length-map set.moduli (residue (pos 0))
+
+-- all residues of v are those of x
+all_from_chosen : (set : ModuliSet) (v : List ℕ) (x : ℤ) → AreResidues set.moduli v → chosen (range_with_len 0 (length set.moduli)) (vector_of set.moduli x) ≡ chosen (range_with_len 0 (length set.moduli)) v → v ≡ vector_of set.moduli x
+all_from_chosen set v x residues e =
+    sym (chosen-all v (length set.moduli) (length-of set v residues)) ∙ sym e ∙ chosen-all (vector_of set.moduli x) (length set.moduli) (length-map set.moduli (residue x))
+
+-- the integer of all channels is clean
+pub IsVerdict-clean : (set : ModuliSet) (which v : List ℕ) (x : ℤ) → AreResidues set.moduli v → which ≡ range_with_len 0 (length set.moduli) → IsIntegerOf set which v x → IsVerdict set v (Clean x)
+IsVerdict-clean set which v x residues e is =
+    (is.in_range, all_from_chosen set v x residues (subst (λ w. chosen w (vector_of set.moduli x) ≡ chosen w v) e is.residues))
+
+-- where all channels have none, v is no integer's vector
+pub none_clean : (set : ModuliSet) (which v : List ℕ) → ((x : ℤ) → IsIntegerOf set which v x → ⊥) → (x : ℤ) → IsInRange set x → v ≢ vector_of set.moduli x
+none_clean set which v none x in_x e =
+    none x (record { in_range = in_x; residues = ap (chosen which) (sym e) })
+
+-- the residues but for one channel
+remove_from_chosen : (set : ModuliSet) (v : List ℕ) (x : ℤ) (i : ℕ) → AreResidues set.moduli v → chosen (remove (range_with_len 0 (length set.moduli)) i) (vector_of set.moduli x) ≡ chosen (remove (range_with_len 0 (length set.moduli)) i) v → remove (vector_of set.moduli x) i ≡ remove v i
+remove_from_chosen set v x i residues e =
+    sym (chosen-without (vector_of set.moduli x) (length set.moduli) i (length-map set.moduli (residue x))) ∙ e ∙ chosen-without v (length set.moduli) i (length-of set v residues)
+
+chosen_from_remove : (set : ModuliSet) (v : List ℕ) (x : ℤ) (i : ℕ) → AreResidues set.moduli v → remove (vector_of set.moduli x) i ≡ remove v i → chosen (remove (range_with_len 0 (length set.moduli)) i) (vector_of set.moduli x) ≡ chosen (remove (range_with_len 0 (length set.moduli)) i) v
+chosen_from_remove set v x i residues e =
+    chosen-without (vector_of set.moduli x) (length set.moduli) i (length-map set.moduli (residue x)) ∙ e ∙ sym (chosen-without v (length set.moduli) i (length-of set v residues))
+
+-- the integer of all channels but one, where all have none, is corrected
+pub IsVerdict-corrected : (set : ModuliSet) (which v : List ℕ) (x : ℤ) (i : ℕ) → IsModuliSet set → AreResidues set.moduli v → i < length set.moduli → which ≡ remove (range_with_len 0 (length set.moduli)) i → ((y : ℤ) → IsInRange set y → v ≢ vector_of set.moduli y) → IsIntegerOf set which v x → IsCorrection set v x i
+IsVerdict-corrected set which v x i rules residues h e none is =
+    IsCorrection-from_remove set v x i rules residues is.in_range h
+    (remove_from_chosen set v x i residues (subst (λ w. chosen w (vector_of set.moduli x) ≡ chosen w v) e is.residues))
+    (none x is.in_range)
+
+-- where they have none, no integer in range has the residues but for that channel
+pub none_without : (set : ModuliSet) (which v : List ℕ) (i : ℕ) → AreResidues set.moduli v → which ≡ remove (range_with_len 0 (length set.moduli)) i → ((x : ℤ) → IsIntegerOf set which v x → ⊥) → (x : ℤ) → IsInRange set x → remove (vector_of set.moduli x) i ≢ remove v i
+none_without set which v i residues e none x in_x same =
+    let residues_same = subst (λ w. chosen w (vector_of set.moduli x) ≡ chosen w v) (sym e) (chosen_from_remove set v x i residues same) in
+    none x (record { in_range = in_x; residues = residues_same })

@@ -1,0 +1,52 @@
+use Rattle.std.proofs.Common.{◌≡◌, ◌+◌, ◌<◌, ◌≤◌, ◌^◌, to_z, of_z, pos, ◌-ℤ◌, sym, subst, arith}
+use Rattle.std.specs.Int.{w128}
+use Rattle.std.proofs.lemmas.Int.{ints}
+use Rattle.moduli_sets.specs.Moduli.{set_of}
+use Rattle.moduli_sets.specs.Set.{range_bound}
+use Rattle.mixed_radix.specs.Chosen.{chosen}
+use Rattle.redundant_decoder.specs.Projection.{IsIntegerOf}
+use Rattle.redundant_decoder.proofs.ProjectionLemmas.{IsNumberOf-value, IsIntegerOf-number, IsIntegerOf-less_product, IsIntegerOf-none}
+use Rattle.redundant_decoder.proofs.projecting.Projecting.integer_of.Goals as goal
+
+pub overflow_cast-y : goal.overflow_cast-y
+overflow_cast-y c =
+    let which = c.args.which.now in
+    let number = IsNumberOf-value (chosen which (set_of c.args.self.now.set).moduli) (chosen which c.args.v.now) c.digits_of.result c.value_of-y.result c.digits_of.ensures.number c.value_of-y.ensures in
+    omega (arith, ints, number.small, c.product_of-product.ensures.value, c.product_of-product.ensures.fits)
+
+pub returns-then-y-bound-clause-found : goal.returns-then-y-bound-clause-found
+returns-then-y-bound-clause-found c =
+    let set = set_of c.args.self.now.set in
+    let which = c.args.which.now in
+    let y = c.value_of-y.result in
+    let number = IsNumberOf-value (chosen which set.moduli) (chosen which c.args.v.now) c.digits_of.result y c.digits_of.ensures.number c.value_of-y.ensures in
+    let small : y < 2 ^ 127 = omega (arith, number.small, c.product_of-product.ensures.value, c.product_of-product.ensures.fits) in
+    let natural : to_z w128 y ≡ pos y = omega (arith, ints) in
+    let within : y ≤ range_bound set = omega (arith, ints, c.if-y-bound.true, c.bound-bound.ensures) in
+    subst (IsIntegerOf set which c.args.v.now) (sym natural) (IsIntegerOf-number set which c.args.v.now y c.requires.channels number within)
+
+pub returns-then-product-y-clause-found : goal.returns-then-product-y-clause-found
+returns-then-product-y-clause-found c =
+    let set = set_of c.args.self.now.set in
+    let which = c.args.which.now in
+    let y = c.value_of-y.result in
+    let p = c.product_of-product.result in
+    let number = IsNumberOf-value (chosen which set.moduli) (chosen which c.args.v.now) c.digits_of.result y c.digits_of.ensures.number c.value_of-y.ensures in
+    let small : y < p = omega (arith, number.small, c.product_of-product.ensures.value) in
+    let fits = c.product_of-product.ensures.fits in
+    let less : to_z w128 (of_z w128 (to_z w128 y -ℤ to_z w128 p)) ≡ pos y -ℤ pos p = omega (arith, ints) in
+    let within : p ≤ y + range_bound set = omega (arith, ints, c.if-product-y.true, c.bound-bound.ensures) in
+    subst (IsIntegerOf set which c.args.v.now) (sym less) (IsIntegerOf-less_product set which c.args.v.now y p c.rules.ensures.set c.requires.channels number c.product_of-product.ensures.value within)
+
+pub returns-else-product-y-clause-none : goal.returns-else-product-y-clause-none
+returns-else-product-y-clause-none c =
+    let set = set_of c.args.self.now.set in
+    let which = c.args.which.now in
+    let y = c.value_of-y.result in
+    let p = c.product_of-product.result in
+    let number = IsNumberOf-value (chosen which set.moduli) (chosen which c.args.v.now) c.digits_of.result y c.digits_of.ensures.number c.value_of-y.ensures in
+    let small : y < p = omega (arith, number.small, c.product_of-product.ensures.value) in
+    let fits = c.product_of-product.ensures.fits in
+    let above : range_bound set < y = omega (arith, ints, c.if-y-bound.false, c.bound-bound.ensures) in
+    let far : y + range_bound set < p = omega (arith, ints, c.if-product-y.false, c.bound-bound.ensures) in
+    IsIntegerOf-none set which c.args.v.now y p c.rules.ensures.set c.product_of-product.ensures.choice c.requires.channels number c.product_of-product.ensures.value above far

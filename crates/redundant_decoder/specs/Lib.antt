@@ -1,0 +1,9 @@
+pub use Rattle.number_theory.specs.Residue
+pub use Rattle.number_theory.specs.Coprime
+pub use Rattle.moduli_sets.specs.Set
+pub use Rattle.moduli_sets.specs.Moduli
+pub use Rattle.moduli_sets.specs.Vector
+pub use Rattle.mixed_radix.specs.Chosen
+pub mod Nearest
+pub mod Projection
+pub mod Verdict

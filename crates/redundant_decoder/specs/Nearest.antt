@@ -1,0 +1,33 @@
+-- The distance of vectors, and the nearest integer of a vector.
+use Rattle.std.specs.Prelude.{ℕ, ◌+◌, ◌≤◌, ◌==◌, ℤ, Bool, true, false, List, [], ◌∷◌, Option, Some, None, if◌then◌else◌}
+use Rattle.std.specs.List.{remove}
+use Rattle.moduli_sets.specs.Set.{ModuliSet, IsInRange}
+use Rattle.moduli_sets.specs.Vector.{vector_of}
+
+-- a part of a list: at each place `true` keeps what stands there and `false` leaves it out
+abbrev pub part : List Bool → List ℕ → List ℕ
+part [] xs = []
+part (keep ∷ keeps) [] = []
+part (true ∷ keeps) (x ∷ xs) = x ∷ part keeps xs
+part (false ∷ keeps) (x ∷ xs) = part keeps xs
+
+-- the number of places in which two lists differ (Hamming)
+abbrev pub distance : List ℕ → List ℕ → ℕ
+distance [] ys = 0
+distance (x ∷ xs) [] = 0
+distance (x ∷ xs) (y ∷ ys) = (if x == y then 0 else 1) + distance xs ys
+
+-- the list without what stands at the place that is left out, where there is one
+abbrev pub without : Option ℕ → List ℕ → List ℕ
+without None xs = xs
+without (Some i) xs = remove xs i
+
+-- x is in range, and its vector is at distance t from v at the most; a channel that is left out counts for nothing
+pub record IsWithin (t : ℕ) (left_out : Option ℕ) (set : ModuliSet) (v : List ℕ) (x : ℤ) : Type 0 where
+  pub in_range : IsInRange set x
+  pub close : distance (without left_out (vector_of set.moduli x)) (without left_out v) ≤ t
+
+-- the nearest integer of v: the one in range within distance t, where there is one
+abbrev pub IsNearest : ℕ → Option ℕ → ModuliSet → List ℕ → Option ℤ → Type 0
+IsNearest t left_out set v (Some x) = IsWithin t left_out set v x
+IsNearest t left_out set v None = (x : ℤ) → IsWithin t left_out set v x → ⊥

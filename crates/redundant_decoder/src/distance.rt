@@ -1,0 +1,69 @@
+ghost use Rattle.std.specs.Prelude.{◌≡◌, ◌≢◌, ℕ, ◌+◌, ◌*◌, ◌<◌, ◌≤◌, ℤ, Bool, List, Option, Some, None, length};
+ghost use Rattle.number_theory.specs.Residue.{AreResidues};
+ghost use Rattle.moduli_sets.specs.Set.{ModuliSet, IsModuliSet, IsInRange, redundant, radius};
+ghost use Rattle.moduli_sets.specs.Vector.{vector_of};
+ghost use Rattle.redundant_decoder.specs.Nearest.{IsNearest, IsWithin, distance, part, without};
+ghost use Rattle.redundant_decoder.specs.Verdict.{IsOf, IsVerdict};
+ghost use Rattle.redundant_decoder.specs.declared.decoder.Verdict.{Verdict};
+ghost use Rattle.redundant_decoder.specs.declared.decoder.Verdict.TheVariants.{Clean, Corrected, Damaged};
+
+/// The distance law. Over any part of the moduli two distinct integers in range agree in fewer places than there are
+/// information moduli. So their vectors differ in more places than there are redundant moduli, and in one place less
+/// where a channel is left out: at least 4 for three redundant moduli, 6 for five.
+pub fn distance_law()
+    ensures part { (set : ModuliSet) (keeps : List Bool) (x y : ℤ)
+        → IsModuliSet set
+        → IsInRange set x
+        → IsInRange set y
+        → x ≢ y
+        → length (part keeps set.moduli) < set.info + distance (vector_of (part keeps set.moduli) x) (vector_of (part keeps set.moduli) y) }
+    ensures whole { (set : ModuliSet) (x y : ℤ)
+        → IsModuliSet set
+        → IsInRange set x
+        → IsInRange set y
+        → x ≢ y
+        → 2 * radius set + 2 ≤ distance (vector_of set.moduli x) (vector_of set.moduli y) }
+    ensures without { (set : ModuliSet) (i : ℕ) (x y : ℤ)
+        → IsModuliSet set
+        → i < length set.moduli
+        → IsInRange set x
+        → IsInRange set y
+        → x ≢ y
+        → 2 * radius set + 1 ≤ distance (without (Some i) (vector_of set.moduli x)) (without (Some i) (vector_of set.moduli y)) }
+{}
+
+/// A vector has one nearest integer at the most: within the radius of the set, whether a channel is left out or not.
+pub fn nearest_is_the_only_one()
+    ensures whole { (set : ModuliSet) (v : List ℕ) (x y : ℤ)
+        → IsModuliSet set
+        → AreResidues set.moduli v
+        → IsNearest (radius set) None set v (Some x)
+        → IsNearest (radius set) None set v (Some y)
+        → x ≡ y }
+    ensures without { (set : ModuliSet) (i : ℕ) (v : List ℕ) (x y : ℤ)
+        → IsModuliSet set
+        → i < length set.moduli
+        → AreResidues set.moduli v
+        → IsNearest (radius set) (Some i) set v (Some x)
+        → IsNearest (radius set) (Some i) set v (Some y)
+        → x ≡ y }
+{}
+
+/// What wrong residues lead to. Where the vector of an integer in range has wrong residues, as many as the radius
+/// at the most, the verdict is that integer; with one more wrong residue no integer is near, and it is Damaged.
+pub fn wrong_residues()
+    ensures corrected { (set : ModuliSet) (v : List ℕ) (x : ℤ) (verdict : Verdict)
+        → IsModuliSet set
+        → AreResidues set.moduli v
+        → IsInRange set x
+        → distance (vector_of set.moduli x) v ≤ radius set
+        → IsVerdict set v verdict
+        → IsOf verdict x }
+    ensures detected { (set : ModuliSet) (v : List ℕ) (x : ℤ) (verdict : Verdict)
+        → IsModuliSet set
+        → AreResidues set.moduli v
+        → IsInRange set x
+        → distance (vector_of set.moduli x) v ≡ radius set + 1
+        → IsVerdict set v verdict
+        → verdict ≡ Damaged }
+{}

@@ -1,0 +1,79 @@
+ghost use Rattle.std.specs.Prelude.{◌≡◌, ◌^◌, ◌<◌, ℤ, length, IfSome, IfNone};
+ghost use Rattle.number_theory.specs.Coprime.{product};
+ghost use Rattle.number_theory.specs.Residue.{AreResidues};
+ghost use Rattle.moduli_sets.specs.Moduli.{set_of};
+ghost use Rattle.mixed_radix.specs.Chosen.{AreBelow, IsChoice, chosen};
+ghost use Rattle.redundant_decoder.specs.Projection.{IsIntegerOf};
+
+use crate::{Decoder, Verdict};
+use mixed_radix::{Chosen, digits_of, value_of};
+use moduli_sets::{Moduli, Vector};
+
+/// The decoder by projections: it leaves out each channel in turn, and asks whether the residues of the others are
+/// those of an integer in range.
+#[derive(Clone, Copy, Debug)]
+pub struct Projecting {
+    set: Moduli,
+}
+
+impl Projecting {
+    /// The decoder of a set.
+    pub fn of(set: &Moduli) -> Projecting
+        ensures { set_of result.set ≡ set_of set.now }
+    {
+        Projecting { set: *set }
+    }
+
+    /// The integer in range that has the vector's residues in the chosen channels, where there is one: their number y,
+    /// or y less the product of their moduli.
+    fn integer_of(&self, which: &Chosen, v: &Vector) -> Option<i128>
+        requires residues { AreResidues (set_of self.now.set).moduli v.now }
+        requires channels { AreBelow (length (set_of self.now.set).moduli) which.now }
+        ensures found { IfSome result (λ x. IsIntegerOf (set_of self.now.set) which.now v.now x) }
+        ensures none { IfNone result ((x : ℤ) → IsIntegerOf (set_of self.now.set) which.now v.now x → ⊥) }
+    {
+        self.set.rules();
+        let product = product_of(&self.set, which) as i128;
+        let y = value_of(&self.set, which, &digits_of(&self.set, which, v)) as i128;
+        let bound = self.set.bound();
+        if y <= bound {
+            Some(y)
+        } else if product - y <= bound {
+            Some(y - product)
+        } else {
+            None
+        }
+    }
+}
+
+/// The product of the chosen moduli, whose channels ascend.
+fn product_of(set: &Moduli, which: &Chosen) -> u128
+    requires { AreBelow (length (set_of set.now).moduli) which.now }
+    ensures value { result ≡ product (chosen which.now (set_of set.now).moduli) }
+    ensures fits { result < 2 ^ 127 }
+    ensures choice { IsChoice which.now }
+{
+    set.rules();
+    let mut product: u128 = 1;
+    for n in (0..which.len()).rev() {
+        product *= u128::from(set.modulus(which.at(n)));
+    }
+    product
+}
+
+impl Decoder for Projecting {
+    ghost set = { λ decoder. set_of decoder.set };
+
+    fn decode(&self, v: &Vector) -> Verdict {
+        self.set.rules();
+        if let Some(x) = self.integer_of(&Chosen::all(&self.set), v) {
+            return Verdict::Clean(x);
+        }
+        for i in 0..self.set.count() {
+            if let Some(x) = self.integer_of(&Chosen::without(&self.set, i), v) {
+                return Verdict::Corrected(x, i);
+            }
+        }
+        Verdict::Damaged
+    }
+}
