@@ -1,6 +1,6 @@
 -- How the parts of the top call end, and what its answer is in each case.
 use Rattle.std.proofs.Common.{◌≡◌, ℕ, ◌<◌, ◌≤◌, ◌⊎◌, ◌+◌, Bool, true, false, List, [], ◌∷◌, length, take, ◌++◌, min, Option, Some, None, MatchOption, nat_lt, refl, sym, subst, ◌∙◌, ap, inl, inr, arith}
-use Rattle.std.specs.Prelude.{IfSome, IsSomeAnd, if◌then◌else◌, replicate}
+use Rattle.std.specs.Prelude.{IfSome, IsSomeAnd, option_and_then, if◌then◌else◌, replicate}
 use Rattle.std.specs.Bool.{MatchBool}
 use Rattle.std.proofs.lemmas.Grind.{common_steps}
 use Rattle.std.proofs.lemmas.List.{length-replicate, take-append-le, take_min}
@@ -13,8 +13,14 @@ use Rattle.outside.specs.Runs.{WroteAll-append, BrokeOff-append}
 use Rattle.outside.specs.Shelf.{Held, file_of, or_other}
 use Rattle.rnm_engine.specs.declared.status.Status.{Status}
 use Rattle.rnm_engine.specs.declared.status.Status.TheVariants.{Ok, NoMemory, Usage, Unread, Unwritten, SourceRefused, InputRefused, PlanRefused, Trap, Damage, Spent, ObjectRefused, ScriptRefused, TooLong}
-use Rattle.rnm_engine.specs.Words.{source_of}
-use Rattle.rnm_engine.specs.Answer.{file_limit, usage_lines, unread_lines, too_long_lines, IsSourceAnswer, IsFileAnswer, IsAnswer, IsStray, StatusLeaves, SourceLeaves, EndsPut, EndsWith, Agrees}
+use Rattle.command_words.specs.declared.job.FileWord.{FileWord}
+use Rattle.command_words.specs.declared.job.Job.{Job}
+use Rattle.command_words.specs.declared.job.Job.TheVariants.{Run}
+use Rattle.command_words.specs.Words.{file_name, job_of_words}
+use Rattle.redundant_decoder.specs.declared.decoder.Verdict.{Verdict}
+use Rattle.redundant_decoder.specs.declared.decoder.Verdict.TheVariants.{Clean, Corrected, Damaged}
+use Rattle.rnm_engine.specs.Decode.{verdict_status}
+use Rattle.rnm_engine.specs.Answer.{file_limit, usage_lines, unread_lines, too_long_lines, IsSourceAnswer, IsFileAnswer, IsRunAnswer, IsJobAnswer, IsAnswer, IsStrayOf, IsStray, file_of_job, StatusLeaves, SourceLeaves, EndsPut, EndsWith, Agrees}
 
 -- ---- what a shelf holds, or may hold where it doesn't tell
 
@@ -49,40 +55,34 @@ held_missing (Some held) name h = (held, refl, h)
 
 -- ---- what the answer is
 
-pub answer_usage : (held : Held) (words : List (List ℕ)) → None ≡ source_of words → IsAnswer held words usage_lines Usage
-answer_usage held words no_job = let P : Option (List ℕ) → Type 0 = λ o. MatchOption o ((usage_lines ≡ usage_lines) × (Usage ≡ Usage)) (λ name. MatchOption (file_of held name) ((usage_lines ≡ unread_lines name) × (Usage ≡ Unread)) (λ text. IsFileAnswer name text usage_lines Usage)) in subst P no_job (refl, refl)
-
-module _ (held : Held) (words : List (List ℕ)) (name : List ℕ) (job : Some name ≡ source_of words) where
-  by_file : (pieces : List (List ℕ)) (status : Status) → MatchOption (file_of held name) ((pieces ≡ unread_lines name) × (status ≡ Unread)) (λ text. IsFileAnswer name text pieces status) → IsAnswer held words pieces status
-  by_file pieces status h =
-      let P : Option (List ℕ) → Type 0 = λ o. MatchOption o ((pieces ≡ usage_lines) × (status ≡ Usage)) (λ name. MatchOption (file_of held name) ((pieces ≡ unread_lines name) × (status ≡ Unread)) (λ text. IsFileAnswer name text pieces status)) in
-      subst P job h
-
-  pub answer_missing : file_of held name ≡ None → IsAnswer held words (unread_lines name) Unread
+module _ (held : Held) (name : List ℕ) where
+  pub answer_missing : file_of held name ≡ None → IsRunAnswer held name (unread_lines name) Unread
   answer_missing missing =
       let P : Option (List ℕ) → Type 0 = λ o. MatchOption o ((unread_lines name ≡ unread_lines name) × (Unread ≡ Unread)) (λ text. IsFileAnswer name text (unread_lines name) Unread) in
-      by_file (unread_lines name) Unread (subst P (sym missing) (refl, refl))
+      subst P (sym missing) (refl, refl)
 
-  by_text : (text : List ℕ) (pieces : List (List ℕ)) (status : Status) → file_of held name ≡ Some text → IsFileAnswer name text pieces status → IsAnswer held words pieces status
+  by_text : (text : List ℕ) (pieces : List (List ℕ)) (status : Status) → file_of held name ≡ Some text → IsFileAnswer name text pieces status → IsRunAnswer held name pieces status
   by_text text pieces status found h =
       let P : Option (List ℕ) → Type 0 = λ o. MatchOption o ((pieces ≡ unread_lines name) × (status ≡ Unread)) (λ text. IsFileAnswer name text pieces status) in
-      by_file pieces status (subst P (sym found) h)
+      subst P (sym found) h
 
-  pub answer_longer : (text : List ℕ) → file_of held name ≡ Some text → file_limit < length text → IsAnswer held words (too_long_lines name) TooLong
+  pub answer_longer : (text : List ℕ) → file_of held name ≡ Some text → file_limit < length text → IsRunAnswer held name (too_long_lines name) TooLong
   answer_longer text found longer =
       let P : Bool → Type 0 = λ b. MatchBool b ((too_long_lines name ≡ too_long_lines name) × (TooLong ≡ TooLong)) (IsSourceAnswer text (too_long_lines name) TooLong) in
       let is_longer : nat_lt file_limit (length text) ≡ true = grind (arith, common_steps) in
       by_text text (too_long_lines name) TooLong found (subst P (sym is_longer) (refl, refl))
 
-  pub answer_source : (text : List ℕ) (pieces : List (List ℕ)) (status : Status) → file_of held name ≡ Some text → length text ≤ file_limit → IsSourceAnswer text pieces status → IsAnswer held words pieces status
+  pub answer_source : (text : List ℕ) (pieces : List (List ℕ)) (status : Status) → file_of held name ≡ Some text → length text ≤ file_limit → IsSourceAnswer text pieces status → IsRunAnswer held name pieces status
   answer_source text pieces status found fits h =
       let P : Bool → Type 0 = λ b. MatchBool b ((pieces ≡ too_long_lines name) × (status ≡ TooLong)) (IsSourceAnswer text pieces status) in
       let is_longer : nat_lt file_limit (length text) ≡ false = grind (arith, common_steps) in
       by_text text pieces status found (subst P (sym is_longer) h)
 
-pub stray_unread : (before now : ℕ) (words : List (List ℕ)) (name : List ℕ) → Rose before now → Some name ≡ source_of words → IsStray before now words (unread_lines name)
-stray_unread before now words name rose job =
-    let P : Option (List ℕ) → Type 0 = λ o. MatchOption o ⊥ (λ n. unread_lines name ≡ unread_lines n) in (rose, subst P job refl)
+-- the answer to words that ask for a job is the answer to the job
+pub answer_for : (held : Held) (words : List (List ℕ)) (job : Option Job) (pieces : List (List ℕ)) (status : Status) → job ≡ job_of_words words → MatchOption job ((pieces ≡ usage_lines) × (status ≡ Usage)) (λ j. IsJobAnswer held words j pieces status) → IsAnswer held words pieces status
+answer_for held words job pieces status is h =
+    let P : Option Job → Type 0 = λ o. MatchOption o ((pieces ≡ usage_lines) × (status ≡ Usage)) (λ j. IsJobAnswer held words j pieces status) in
+    subst P is h
 
 -- ---- how a part of the call ends
 
@@ -91,6 +91,11 @@ abbrev is_whole : Status → Bool
 is_whole NoMemory = false
 is_whole Unwritten = false
 is_whole status = true
+
+pub verdict_is_whole : (verdict : Verdict) → is_whole (verdict_status verdict) ≡ true
+verdict_is_whole (Clean x) = refl
+verdict_is_whole (Corrected x i) = refl
+verdict_is_whole Damaged = refl
 
 source_is_whole : (text : List ℕ) (pieces : List (List ℕ)) (status : Status) → IsSourceAnswer text pieces status → is_whole status ≡ true
 source_is_whole text pieces status h = elim h [ inl runs ↦ ap is_whole runs.3 | inr refused ↦ ap is_whole refused.2 ]
@@ -175,3 +180,19 @@ module _ {K : Type 0} (took : K → List ℕ → K → Type 0) (state : K → Si
             ]
         | inr memory ↦ inl memory
       ]
+
+  -- a part that takes no memory gives the whole answer, where no put failed
+  pub completes_put : (answers : List (List ℕ) → Status → Type 0) (pieces : List (List ℕ)) (status result : Status) (new : K) → answers pieces status → EndsPut took state old pieces status result new → (Rose (state old).faults (state new).faults → ⊥) → ((result ≡ NoMemory) × WroteAll took state old [] new) ⊎ ((puts : List (List ℕ)) × answers puts result × WroteAll took state old puts new)
+  completes_put answers pieces status result new answer ends no_fault =
+      let P : Status → Type 0 = λ s. answers pieces s in
+      elim ends [
+        | inl (is, wrote) ↦ inr (pieces, subst P (sym is) answer, wrote)
+        | inr (is, (n, broke)) ↦ absurd (no_fault broke.rose)
+      ]
+
+  -- what running a source leaves is what the words that ask for it leave
+  pub leaves_run : (held : Held) (words : List (List ℕ)) (source : FileWord) (name : List ℕ) (before after : ℕ) (result : Status) (new : K) → name ≡ file_name words source → Some (Run source) ≡ job_of_words words → StatusLeaves took state old (IsRunAnswer held name) (IsStrayOf before after name) result new → StatusLeaves took state old (IsAnswer held words) (IsStray before after words) result new
+  leaves_run held words source name before after result new named is h =
+      let by_name : List ℕ → Type 0 = λ n. StatusLeaves took state old (IsRunAnswer held n) (IsStrayOf before after n) result new in
+      let by_job : Option Job → Type 0 = λ o. StatusLeaves took state old (λ pieces status. MatchOption o ((pieces ≡ usage_lines) × (status ≡ Usage)) (λ j. IsJobAnswer held words j pieces status)) (λ pieces. MatchOption (option_and_then (file_of_job words) o) ⊥ (λ n. IsStrayOf before after n pieces)) result new in
+      subst by_job is (subst by_name named h)

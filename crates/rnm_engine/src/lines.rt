@@ -1,23 +1,12 @@
-ghost use Rattle.std.specs.Prelude.{◌≡◌, ◌++◌, IfOk};
-ghost use Rattle.std.specs.Fmt.{signed_decimal};
-ghost use Rattle.rnm_engine.specs.Answer.{line};
+ghost use Rattle.std.specs.Prelude.{◌≡◌, ◌≤◌, ◌+◌, ◌++◌, IfOk, length};
+ghost use Rattle.arrayvec.specs.ArrayVec.{array_vec_len};
+ghost use Rattle.number_text.specs.Lines.{line};
 
 use arrayvec::ArrayVec;
-use itoa::Buffer;
 use std::alloc::{AllocError, Global};
 
-/// An integer in decimal, and LF: at most 41 bytes.
-pub fn line_of(n: i128) -> ArrayVec<u8, 42>
-    ensures { result.items ≡ line (signed_decimal n) }
-{
-    let mut buffer = Buffer::new();
-    let mut line = ArrayVec::new();
-    for byte in buffer.format(n).as_bytes() {
-        line.push(*byte);
-    }
-    line.push(b'\n');
-    line
-}
+/// Room for a line with twelve numbers, or two of 39 digits, and a word before them.
+pub const ROOM: usize = 160;
 
 /// A text before the name of a file, and LF.
 pub fn line_with_name(alloc: Global, front: &[u8], name: &str) -> Result<Vec<u8>, AllocError>
@@ -27,4 +16,14 @@ pub fn line_with_name(alloc: Global, front: &[u8], name: &str) -> Result<Vec<u8>
     line.extend_from_slice(name.as_bytes())?;
     line.push(b'\n')?;
     Ok(line)
+}
+
+/// Puts bytes at the end of a line that has room for them.
+pub fn append(line: &mut ArrayVec<u8, ROOM>, bytes: &[u8])
+    requires { array_vec_len line.old + length bytes.now ≤ 160 }
+    ensures { line.new.items ≡ line.old.items ++ bytes.now }
+{
+    for byte in bytes {
+        line.push(*byte);
+    }
 }

@@ -98,6 +98,44 @@ fn words_are_refused(rt: HostRuntime) -> Result<(), Fail> {
 }
 
 #[test]
+fn sets_and_residues(rt: HostRuntime) -> Result<(), Fail> {
+    for (words, printed) in [
+        (["encode", "pocket", "42"].as_slice(), "3 12 10 8 4\n"),
+        (&["encode", "pocket", "-97"], "7 8 15 5 17\n"),
+        (&["encode", "desk", "300"], "61 59 53 49 47 45 44 43\n"),
+        (
+            &["set", "pocket"],
+            "moduli 13 15 16 17 19\ninformation 2\nrange -97..97\n",
+        ),
+    ] {
+        let (status, written) = done(rt.alloc(), words, b"", &NONE)?;
+        assert_eq!(rt; status, Status::Ok);
+        assert_eq!(rt; written.as_slice(), printed.as_bytes());
+    }
+    assert!(rt; is_usage(rt.alloc(), &["encode", "pocket", "98"])?);
+    assert!(rt; is_usage(rt.alloc(), &["encode", "desk", "451727098180"])?);
+    Ok(())
+}
+
+#[test]
+fn vectors_are_decoded(rt: HostRuntime) -> Result<(), Fail> {
+    for (residues, printed, ended) in [
+        (["3", "12", "10", "8", "4"], "clean 42\n", Status::Ok),
+        (["3", "12", "10", "8", "9"], "corrected 42 4\n", Status::Ok),
+        (["4", "13", "10", "8", "4"], "damaged\n", Status::Damage),
+        (["7", "8", "2", "13", "3"], "damaged\n", Status::Damage),
+    ] {
+        let [a, b, c, d, e] = residues;
+        let words = ["decode", "pocket", a, b, c, d, e];
+        let (status, written) = done(rt.alloc(), &words, b"", &NONE)?;
+        assert_eq!(rt; status, ended);
+        assert_eq!(rt; written.as_slice(), printed.as_bytes());
+    }
+    assert!(rt; is_usage(rt.alloc(), &["decode", "pocket", "3", "12", "10", "8"])?);
+    Ok(())
+}
+
+#[test]
 fn files_are_refused(rt: HostRuntime) -> Result<(), Fail> {
     let missing = ["run", "b.src", "-", "--set=pocket"];
     let (status, written) = done(rt.alloc(), &missing, b"", &NONE)?;

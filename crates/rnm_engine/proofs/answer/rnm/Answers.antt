@@ -1,72 +1,108 @@
-use Rattle.std.proofs.Common.{List, map, ℕ, inl, inr, refl}
-use Rattle.std.specs.String.{string_bytes}
-use Rattle.outside.specs.Runs.{WroteAll-none}
-use Rattle.rnm_engine.specs.declared.status.Status.TheVariants.{Usage, Unread, TooLong}
-use Rattle.rnm_engine.specs.declared.status.Status.{Status}
-use Rattle.rnm_engine.specs.Answer.{file_limit, unread_lines, too_long_lines, usage_lines, IsAnswer, IsSourceAnswer, IsStray}
-use Rattle.rnm_engine.proofs.Endings.{some_held, held_whole, held_longer, held_missing, answer_usage, answer_missing, answer_longer, answer_source, stray_unread, leaves_answer, leaves_stray, leaves_source, completes_source, told_file}
+use Rattle.std.proofs.Common.{ℕ, List, Some, None, map, string_bytes, inl, refl, sym, ap, ◌∙◌, subst, rules, to_z, of_z}
+use Rattle.std.specs.Int.{w128}
+use Rattle.std.specs.Int.RustNames.{FitsSigned}
+use Rattle.std.proofs.lemmas.Int.{to_z-of_z}
+use Rattle.command_words.specs.declared.job.Job.TheVariants.{Decode, Encode, Set}
+use Rattle.command_words.proofs.FileNames.{boundary_of_whole_word}
+use Rattle.moduli_sets.specs.Name.{set_of_name}
+use Rattle.moduli_sets.specs.Set.{IsInRange, ModuliSet}
+use Rattle.rnm_engine.specs.declared.status.Status.TheVariants.{Ok, Usage}
+use Rattle.redundant_decoder.specs.declared.decoder.Verdict.{Verdict}
+use Rattle.redundant_decoder.specs.Verdict.{IsVerdict}
+use Rattle.rnm_engine.specs.Decode.{verdict_lines, verdict_status}
+use Rattle.rnm_engine.specs.Sets.{encode_lines, set_lines}
+use Rattle.rnm_engine.specs.Answer.{usage_lines, IsAnswer, IsStray, EndsPut}
+use Rattle.rnm_engine.proofs.Endings.{some_held, answer_for, leaves_answer, leaves_run, completes_put, verdict_is_whole}
 use Rattle.rnm_engine.proofs.answer.rnm.Goals as goal
 
-pub returns-in_default-clause-answer : goal.returns-in_default-clause-answer
-returns-in_default-clause-answer g c =
+pub name_of-requires-clause-skip : goal.name_of-requires-clause-skip
+name_of-requires-clause-skip g c =
+    boundary_of_whole_word c.args.words.now c.in-Some-Run.source.word c.in-Some-Run.source.skip (rw c.in-Some-Run.field-0-is at c.in-Some-Run.ensures.holds).1
+
+pub encode-requires : goal.encode-requires
+encode-requires g c =
+    let x = c.in-Some-Encode.x in
+    let fits : FitsSigned w128 x = search rules in
+    let within : IsInRange (set_of_name c.in-Some-Encode.set) x = rw c.in-Some-Encode.field-0-is at c.in-Some-Encode.ensures.holds in
+    rw (c.of-in-Some-Encode.ensures, to_z-of_z w128 x fits) within
+
+pub returns-in-Some-Run-clause-answer : goal.returns-in-Some-Run-clause-answer
+returns-in-Some-Run-clause-answer g c =
     let words = map string_bytes c.args.words.now in
     let before = (g.S.Shelf.state c.args.shelf.now).faults in
+    let after = (g.S.Shelf.state c.run.new.shelf).faults in
+    let job = ap Some (sym c.in-Some-Run.field-0-is) ∙ c.in-Some-Run.ensures.value in
+    let left = c.run.ensures.answer in
+    (left.0, left.1, leaves_run g.K.Sink.took g.K.Sink.state c.args.sink.now left.0 words c.in-Some-Run.source c.name_of.result.now before after c.run.result c.run.new.sink c.name_of.ensures job left.2)
+
+pub returns-in-Some-Decode-clause-answer : goal.returns-in-Some-Decode-clause-answer
+returns-in-Some-Decode-clause-answer g c =
+    let words = map string_bytes c.args.words.now in
+    let faults = (g.S.Shelf.state c.args.shelf.now).faults in
+    let set = c.in-Some-Decode.set in
+    let residues = c.in-Some-Decode.residues in
+    let job = ap Some (sym c.in-Some-Decode.field-0-is) ∙ c.in-Some-Decode.ensures.value in
     let held = some_held (g.S.Shelf.state c.args.shelf.now).told in
-    (held.0, held.1, leaves_answer g.K.Sink.took g.K.Sink.state c.args.sink.now (IsAnswer held.0 words) (IsStray before before words) Usage refl usage_lines c.finish.result c.finish.new.sink (answer_usage held.0 words c.in_default.ensures) (inl c.finish.ensures))
+    let decodes : ModuliSet → Type 0 = λ s. (verdict : Verdict) × IsVerdict s residues verdict × EndsPut g.K.Sink.took g.K.Sink.state c.args.sink.now (verdict_lines verdict) (verdict_status verdict) c.decode.result c.decode.new.sink in
+    let left = subst decodes c.of.ensures c.decode.ensures in
+    let answer = answer_for held.0 words (Some (Decode set residues)) (verdict_lines left.0) (verdict_status left.0) job (left.0, left.1, refl, refl) in
+    (held.0, held.1, leaves_answer g.K.Sink.took g.K.Sink.state c.args.sink.now (IsAnswer held.0 words) (IsStray faults faults words) (verdict_status left.0) (verdict_is_whole left.0) (verdict_lines left.0) c.decode.result c.decode.new.sink answer (inl left.2))
 
-pub returns-in-TooLong-clause-answer : goal.returns-in-TooLong-clause-answer
-returns-in-TooLong-clause-answer g c =
+pub returns-in-Some-Decode-clause-complete : goal.returns-in-Some-Decode-clause-complete
+returns-in-Some-Decode-clause-complete g c held told no_fetch_fault no_put_fault =
     let words = map string_bytes c.args.words.now in
-    let before = (g.S.Shelf.state c.args.shelf.now).faults in
-    let after = (g.S.Shelf.state c.fetch.new.self).faults in
-    let name = c.in-Some.name.now in
-    let held = held_longer (g.S.Shelf.state c.args.shelf.now).told name file_limit c.in-TooLong.ensures.leaves.1 in
-    (held.0, held.1, leaves_answer g.K.Sink.took g.K.Sink.state c.args.sink.now (IsAnswer held.0 words) (IsStray before after words) TooLong refl (too_long_lines name) c.finish_with_name.result c.finish_with_name.new.sink (answer_longer held.0 words name c.in-Some.ensures held.2.0 held.2.1 held.2.2) c.finish_with_name.ensures)
+    let set = c.in-Some-Decode.set in
+    let residues = c.in-Some-Decode.residues in
+    let job = ap Some (sym c.in-Some-Decode.field-0-is) ∙ c.in-Some-Decode.ensures.value in
+    let decodes : ModuliSet → Type 0 = λ s. (verdict : Verdict) × IsVerdict s residues verdict × EndsPut g.K.Sink.took g.K.Sink.state c.args.sink.now (verdict_lines verdict) (verdict_status verdict) c.decode.result c.decode.new.sink in
+    let left = subst decodes c.of.ensures c.decode.ensures in
+    let answer = answer_for held words (Some (Decode set residues)) (verdict_lines left.0) (verdict_status left.0) job (left.0, left.1, refl, refl) in
+    completes_put g.K.Sink.took g.K.Sink.state c.args.sink.now (IsAnswer held words) (verdict_lines left.0) (verdict_status left.0) c.decode.result c.decode.new.sink answer left.2 no_put_fault
 
-pub returns-in-Failed-clause-answer : goal.returns-in-Failed-clause-answer
-returns-in-Failed-clause-answer g c =
-    let told = (g.S.Shelf.state c.args.shelf.now).told in
+pub returns-in-Some-Encode-clause-answer : goal.returns-in-Some-Encode-clause-answer
+returns-in-Some-Encode-clause-answer g c =
     let words = map string_bytes c.args.words.now in
-    let before = (g.S.Shelf.state c.args.shelf.now).faults in
-    let after = (g.S.Shelf.state c.fetch.new.self).faults in
-    let name = c.in-Some.name.now in
-    let result = c.finish_with_name-in-Failed.result in
-    let new = c.finish_with_name-in-Failed.new.sink in
-    let ends = c.finish_with_name-in-Failed.ensures in
-    elim c.in-Failed.ensures.leaves.1 [
-      | inl (missing, same) ↦
-          let held = held_missing told name missing in
-          (held.0, held.1, leaves_answer g.K.Sink.took g.K.Sink.state c.args.sink.now (IsAnswer held.0 words) (IsStray before after words) Unread refl (unread_lines name) result new (answer_missing held.0 words name c.in-Some.ensures held.2) ends)
-      | inr (there, rose) ↦
-          let held = some_held told in
-          (held.0, held.1, leaves_stray g.K.Sink.took g.K.Sink.state c.args.sink.now (IsAnswer held.0 words) (IsStray before after words) (unread_lines name) result new (stray_unread before after words name rose c.in-Some.ensures) ends)
-    ]
-
-pub returns-in-Whole-clause-answer : goal.returns-in-Whole-clause-answer
-returns-in-Whole-clause-answer g c =
-    let words = map string_bytes c.args.words.now in
-    let before = (g.S.Shelf.state c.args.shelf.now).faults in
-    let after = (g.S.Shelf.state c.fetch.new.self).faults in
-    let name = c.in-Some.name.now in
-    let text = c.fetch.new.into.items in
-    let result = c.run_source.result in
-    let new = c.run_source.new.sink in
-    let held = held_whole (g.S.Shelf.state c.args.shelf.now).told name text c.in-Whole.ensures.leaves.1 in
-    let answer = λ (pieces : List (List ℕ)) (status : Status) (source : IsSourceAnswer text pieces status). answer_source held.0 words name c.in-Some.ensures text pieces status held.2 c.in-Whole.ensures.leaves.0 source in
-    let ends = rw c.as_slice.ensures.value at c.run_source.ensures in
-    (held.0, held.1, leaves_source g.K.Sink.took g.K.Sink.state c.args.sink.now (IsAnswer held.0 words) (IsStray before after words) text result new answer ends)
-
-pub returns-in-Whole-clause-complete : goal.returns-in-Whole-clause-complete
-returns-in-Whole-clause-complete g c held told no_fetch_fault no_put_fault =
-    let words = map string_bytes c.args.words.now in
-    let name = c.in-Some.name.now in
-    let text = c.fetch.new.into.items in
-    let file = told_file (g.S.Shelf.state c.args.shelf.now).told held name text told c.in-Whole.ensures.leaves.1 in
-    let answer = λ (pieces : List (List ℕ)) (status : Status) (source : IsSourceAnswer text pieces status). answer_source held words name c.in-Some.ensures text pieces status file c.in-Whole.ensures.leaves.0 source in
-    let ends = rw c.as_slice.ensures.value at c.run_source.ensures in
-    completes_source g.K.Sink.took g.K.Sink.state c.args.sink.now (IsAnswer held words) text c.run_source.result c.run_source.new.sink answer ends no_put_fault
-
-pub returns-clause-answer : goal.returns-clause-answer
-returns-clause-answer g c =
+    let faults = (g.S.Shelf.state c.args.shelf.now).faults in
+    let set = c.in-Some-Encode.set in
+    let x = c.in-Some-Encode.x in
+    let fits : FitsSigned w128 x = search rules in
+    let job = ap Some (sym c.in-Some-Encode.field-0-is) ∙ c.in-Some-Encode.ensures.value in
     let held = some_held (g.S.Shelf.state c.args.shelf.now).told in
-    (held.0, held.1, WroteAll-none c.args.sink.now)
+    let answer = answer_for held.0 words (Some (Encode set x)) (encode_lines (set_of_name set) x) Ok job (refl, refl) in
+    let lines = ap (λ s. encode_lines s (to_z w128 (of_z w128 x))) c.of-in-Some-Encode.ensures ∙ ap (encode_lines (set_of_name set)) (to_z-of_z w128 x fits) in
+    let ends_with : List (List ℕ) → Type 0 = λ puts. EndsPut g.K.Sink.took g.K.Sink.state c.args.sink.now puts Ok c.encode.result c.encode.new.sink in
+    let ends = subst ends_with lines c.encode.ensures in
+    (held.0, held.1, leaves_answer g.K.Sink.took g.K.Sink.state c.args.sink.now (IsAnswer held.0 words) (IsStray faults faults words) Ok refl (encode_lines (set_of_name set) x) c.encode.result c.encode.new.sink answer (inl ends))
+
+pub returns-in-Some-Encode-clause-complete : goal.returns-in-Some-Encode-clause-complete
+returns-in-Some-Encode-clause-complete g c held told no_fetch_fault no_put_fault =
+    let words = map string_bytes c.args.words.now in
+    let set = c.in-Some-Encode.set in
+    let x = c.in-Some-Encode.x in
+    let fits : FitsSigned w128 x = search rules in
+    let job = ap Some (sym c.in-Some-Encode.field-0-is) ∙ c.in-Some-Encode.ensures.value in
+    let answer = answer_for held words (Some (Encode set x)) (encode_lines (set_of_name set) x) Ok job (refl, refl) in
+    let lines = ap (λ s. encode_lines s (to_z w128 (of_z w128 x))) c.of-in-Some-Encode.ensures ∙ ap (encode_lines (set_of_name set)) (to_z-of_z w128 x fits) in
+    let ends_with : List (List ℕ) → Type 0 = λ puts. EndsPut g.K.Sink.took g.K.Sink.state c.args.sink.now puts Ok c.encode.result c.encode.new.sink in
+    let ends = subst ends_with lines c.encode.ensures in
+    completes_put g.K.Sink.took g.K.Sink.state c.args.sink.now (IsAnswer held words) (encode_lines (set_of_name set) x) Ok c.encode.result c.encode.new.sink answer ends no_put_fault
+
+pub returns-in-Some-Set-clause-answer : goal.returns-in-Some-Set-clause-answer
+returns-in-Some-Set-clause-answer g c =
+    let words = map string_bytes c.args.words.now in
+    let faults = (g.S.Shelf.state c.args.shelf.now).faults in
+    let set = c.in-Some-Set.set in
+    let job = ap Some (sym c.in-Some-Set.field-0-is) ∙ c.in-Some-Set.ensures.value in
+    let held = some_held (g.S.Shelf.state c.args.shelf.now).told in
+    let answer = answer_for held.0 words (Some (Set set)) (set_lines (set_of_name set)) Ok job (refl, refl) in
+    let ends_with : ModuliSet → Type 0 = λ s. EndsPut g.K.Sink.took g.K.Sink.state c.args.sink.now (set_lines s) Ok c.describe.result c.describe.new.sink in
+    let ends = subst ends_with c.of-in-Some-Set.ensures c.describe.ensures in
+    (held.0, held.1, leaves_answer g.K.Sink.took g.K.Sink.state c.args.sink.now (IsAnswer held.0 words) (IsStray faults faults words) Ok refl (set_lines (set_of_name set)) c.describe.result c.describe.new.sink answer (inl ends))
+
+pub returns-in-None-clause-answer : goal.returns-in-None-clause-answer
+returns-in-None-clause-answer g c =
+    let words = map string_bytes c.args.words.now in
+    let faults = (g.S.Shelf.state c.args.shelf.now).faults in
+    let held = some_held (g.S.Shelf.state c.args.shelf.now).told in
+    let answer = answer_for held.0 words None usage_lines Usage c.in-None.ensures.value (refl, refl) in
+    (held.0, held.1, leaves_answer g.K.Sink.took g.K.Sink.state c.args.sink.now (IsAnswer held.0 words) (IsStray faults faults words) Usage refl usage_lines c.finish.result c.finish.new.sink answer (inl c.finish.ensures))

@@ -1,0 +1,4 @@
+pub mod FileNames
+pub mod IntegerLemmas
+pub mod ResidueLemmas
+pub mod ShortNumbers

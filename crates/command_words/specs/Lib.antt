@@ -1,0 +1,4 @@
+pub use Rattle.plain_text.specs.Digits
+pub use Rattle.moduli_sets.specs.Set
+pub use Rattle.moduli_sets.specs.Name
+pub mod Words

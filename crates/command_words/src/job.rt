@@ -1,0 +1,21 @@
+use moduli_sets::{SetName, Vector};
+
+/// The part of word number `word`, counted from 0, from byte `skip` on: it names a file.
+#[derive(Clone, Copy, Debug, PartialEq, Eq)]
+pub struct FileWord {
+    pub word: usize,
+    pub skip: usize,
+}
+
+/// What the words ask for.
+#[derive(Clone, Debug, PartialEq, Eq, Drop)]
+pub enum Job {
+    /// Run a thin source on `pocket`.
+    Run { source: FileWord },
+    /// Print what a vector stands for. It has one residue for each channel, below its modulus.
+    Decode { set: SetName, residues: Vector },
+    /// Print the residues of x, which is in range.
+    Encode { set: SetName, x: i128 },
+    /// Print the moduli, the number of information moduli and the range.
+    Set { set: SetName },
+}

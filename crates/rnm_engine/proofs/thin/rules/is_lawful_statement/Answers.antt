@@ -1,9 +1,0 @@
-use Rattle.std.proofs.Common.{map, ap}
-use Rattle.rnm_engine.specs.ThinRules.{is_lawful_statement}
-use Rattle.rnm_engine.specs.ThinView.{declaration_view, statement_view}
-use Rattle.rnm_engine.proofs.thin.rules.is_lawful_statement.Goals as goal
-
-pub returns-in-Assign : goal.returns-in-Assign
-returns-in-Assign c =
-    let by_case = ap (λ statement. is_lawful_statement (map declaration_view c.args.declarations.now) (statement_view statement)) c.in-Assign.is in
-    cc

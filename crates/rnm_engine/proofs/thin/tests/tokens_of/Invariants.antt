@@ -1,7 +1,0 @@
-use Rattle.std.proofs.Common.{◌≤◌}
-use Rattle.std.specs.List.{All}
-use Rattle.rnm_engine.specs.ThinGrammar.{IsTokenOf}
-use Rattle.rnm_engine.proofs.thin.tests.tokens_of.Given as goal
-
-abbrev pub invariant-loop-end : goal.invariant-loop-end
-invariant-loop-end l = (l.start ≤ l.end) × All (IsTokenOf l.text) l.tokens.items

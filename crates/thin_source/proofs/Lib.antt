@@ -1,0 +1,15 @@
+pub mod ThinTokens
+pub mod ThinOnce
+pub mod ThinSums
+pub mod ThinStatements
+pub mod ThinDeclarations
+pub mod ThinPrograms
+pub mod ThinScans
+pub mod PocketIntervals
+pub mod ThinParts
+pub mod ThinPlaces
+pub mod ThinReached
+pub mod ThinSound
+pub mod ThinStart
+pub mod ThinStep
+pub mod ThinLoops

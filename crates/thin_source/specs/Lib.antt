@@ -1,0 +1,17 @@
+pub use Rattle.plain_text.specs.Digits
+pub use Rattle.source_lexer.specs.Tokens
+pub use Rattle.source_lexer.specs.Scan
+pub use Rattle.moduli_sets.specs.Set
+pub use Rattle.moduli_sets.specs.Name
+pub use Rattle.moduli_sets.specs.Vector
+pub use Rattle.number_text.specs.Lines
+pub use Rattle.outside.specs.Sink
+pub mod Interval
+pub mod ThinTree
+pub mod ThinGrammar
+pub mod ThinView
+pub mod ThinFronts
+pub mod ThinRules
+pub mod ThinMeaning
+pub mod ThinVectors
+pub mod ThinStates
