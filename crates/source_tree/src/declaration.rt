@@ -1,0 +1,50 @@
+use crate::{Name, Range, Statement};
+use sqlite_items::Items;
+
+/// A parameter of a procedure. Its line is that of its name.
+#[derive(Debug, Drop)]
+pub struct Param {
+    pub name: Name,
+    pub range: Range,
+}
+
+/// A local of a procedure. The line is that of its `var`.
+#[derive(Debug, Drop)]
+pub struct Local {
+    pub name: Name,
+    pub range: Range,
+    pub line: u32,
+}
+
+/// A declaration. Its line is that of its first token.
+#[derive(Debug, Drop)]
+pub enum Declaration {
+    /// var name: range
+    Var {
+        name: Name,
+        range: Range,
+        line: u32,
+    },
+    /// array name[length]: range
+    Array {
+        name: Name,
+        length: i128,
+        range: Range,
+        line: u32,
+    },
+    /// proc name(params) locals do body end
+    Proc {
+        name: Name,
+        params: Items<Param>,
+        locals: Items<Local>,
+        body: Items<Statement>,
+        line: u32,
+    },
+}
+
+/// A source: declarations, and then statements.
+#[derive(Debug, Drop)]
+pub struct Program {
+    pub declarations: Items<Declaration>,
+    pub statements: Items<Statement>,
+}
