@@ -3,7 +3,7 @@
 //! A lane is all that one channel holds: registers, scratch places, data words, and a count of its answers. A
 //! bank is a lane for each channel of a set, each of its own channel type. In come micro-operations, out go
 //! the lanes' answers, one at a time: lane i performs by itself, and no other lane changes. The crate stands
-//! on `channel_alu` and `fault_book`.
+//! on `channel_alu` and `fault_book`. The banks of the three sets are in `set_banks`, with the tests of both.
 #![tactic(auto)]
 
 mod bank;
@@ -11,11 +11,9 @@ mod banks;
 mod column;
 mod lane;
 mod laws;
-#[cfg(test)]
-mod tests;
 
 pub use bank::Bank;
-pub use banks::{Cons, DeskBank, HallBank, Nil, PocketBank};
+pub use banks::{Cons, Nil};
 pub use column::perform_in_all;
 pub use lane::Lane;
 pub use laws::laws_of_lanes;

@@ -3,7 +3,7 @@ use Rattle.moduli_sets.specs.Name.{set_of_name}
 use Rattle.lane_bank.specs.Lane.{LaneState, CanPerform}
 use Rattle.lane_bank.specs.Bank.{lanes_at_start}
 use Rattle.lane_bank.proofs.BankLemmas.{All-lanes_at_start}
-use Rattle.lane_bank.proofs.tests.column_of.Goals as goal
+use Rattle.set_banks.proofs.tests.column_of.Goals as goal
 
 pub perform_in_all-requires-clause-can : goal.perform_in_all-requires-clause-can
 perform_in_all-requires-clause-can g c =

@@ -3,9 +3,10 @@ ghost use Rattle.moduli_sets.specs.Moduli.{set_of};
 ghost use Rattle.moduli_sets.specs.Name.{set_of_name};
 ghost use Rattle.lane_bank.specs.Lane.{LaneState, CanPerform, HasPlace, lane_at_start};
 
-use crate::{Bank, Cons, DeskBank, HallBank, Nil, PocketBank, perform_in_all};
+use crate::{DeskBank, HallBank, PocketBank};
 use channel_alu::{MicroOp, Place, Plain, Plus, Power};
 use fault_book::Faults;
+use lane_bank::{Bank, Cons, Nil, perform_in_all};
 use moduli_sets::{Moduli, SetName, Vector};
 use std::alloc::{AllocError, Global};
 use std::test::Fail;

@@ -1,5 +1,5 @@
 use Rattle.std.proofs.Common.{◌<◌, length, arith}
-use Rattle.lane_bank.proofs.tests.first_unlike.Goals as goal
+use Rattle.set_banks.proofs.tests.first_unlike.Goals as goal
 
 pub held-requires-clause-place : goal.held-requires-clause-place
 held-requires-clause-place g c =

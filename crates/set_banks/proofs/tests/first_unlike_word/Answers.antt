@@ -3,7 +3,7 @@ use Rattle.std.proofs.lemmas.List.{length-map}
 use Rattle.moduli_sets.specs.Moduli.{set_of}
 use Rattle.lane_bank.specs.Lane.{LaneState}
 use Rattle.lane_bank.proofs.BankLemmas.{All-lanes_at_start}
-use Rattle.lane_bank.proofs.tests.first_unlike_word.Goals as goal
+use Rattle.set_banks.proofs.tests.first_unlike_word.Goals as goal
 
 pub first_unlike-requires : goal.first_unlike-requires
 first_unlike-requires g c =
