@@ -13,8 +13,6 @@ mod operation;
 mod plain;
 mod plus;
 mod power;
-#[cfg(test)]
-mod tests;
 
 pub use channel::Channel;
 pub use ones::Ones;

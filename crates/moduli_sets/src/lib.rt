@@ -10,8 +10,6 @@ mod digits;
 mod kind;
 mod moduli;
 mod set_name;
-#[cfg(test)]
-mod tests;
 mod vector;
 
 pub use counts::Counts;
