@@ -1,0 +1,16 @@
+pub mod AllOf
+pub mod Declarations
+pub mod Factors
+pub mod Failing
+pub mod Joined
+pub mod Joining
+pub mod Listed
+pub mod Listing
+pub mod Ranges
+pub mod Sequences
+pub mod Signs
+pub mod StatementParts
+pub mod Statements
+pub mod Taken
+pub mod Tokens
+pub mod Weights

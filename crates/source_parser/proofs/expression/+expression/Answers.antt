@@ -1,0 +1,215 @@
+use Rattle.std.proofs.Common.{sym, ap, subst, ◌∙◌, not, rules}
+use Rattle.std.specs.Int.{w128}
+use Rattle.std.specs.Int.RustNames.{FitsSigned}
+use Rattle.std.proofs.lemmas.Int.{to_z-of_z}
+use Rattle.source_lexer.specs.declared.token.TokenKind.TheVariants as kind
+use Rattle.source_parser.specs.Grammar.{factor, term, sum, ReadsWithin}
+use Rattle.source_parser.specs.Fronts.{NotMark, NotWord, NotNumeral, Ends}
+use Rattle.source_parser.proofs.Taken.{weighty_taken, weighty_missed}
+use Rattle.source_parser.proofs.Failing.{fails, part_fails, word_fails}
+use Rattle.source_parser.proofs.Factors.{negated_front, negated_none, negated_deep, bracketed_front, bracketed_none, bracketed_open, bracketed_deep, number_front, name_front, element_front, element_none, element_open, element_deep, no_factor}
+use Rattle.source_parser.proofs.Joined.{joining_starts, joining_turns, joining_ends, no_first_part, no_right_part, no_operator_allowed}
+use Rattle.source_parser.proofs.expression.+expression.Goals as goal
+
+pub factor-returns-in_err-line-clause-value : goal.factor-returns-in_err-line-clause-value
+factor-returns-in_err-line-clause-value t c =
+    let deep = c.in_err-line.ensures.value in
+    fails _ _ _ _ _ c.from_residual.ensures.0 (negated_deep deep.3 deep.0)
+
+pub factor-returns-in_err-operand-clause-value : goal.factor-returns-in_err-operand-clause-value
+factor-returns-in_err-operand-clause-value t c =
+    let minus = rw c.in-Some.is at c.in_ok-line.ensures.value in
+    part_fails (ReadsWithin factor c.weighty.new.allowed) (Ends factor) c.weighty.new.reader c.factor.new.reader _ _ _ _ _ _
+    c.in_err-operand.ensures.value c.from_residual-in_err-operand.ensures.1 (negated_none minus.0 minus.1)
+
+pub factor-returns-in-Some-clause-value : goal.factor-returns-in-Some-clause-value
+factor-returns-in-Some-clause-value t c =
+    let minus = rw c.in-Some.is at c.in_ok-line.ensures.value in
+    rw c.in_ok-operand-2.ensures (negated_front minus.0 minus.1 c.in_ok-operand.ensures.value)
+
+pub factor-returns-in_err-weighty-clause-value : goal.factor-returns-in_err-weighty-clause-value
+factor-returns-in_err-weighty-clause-value t c =
+    let minus = rw c.in_default.is at c.in_ok-line.ensures.value in
+    let deep = c.in_err-weighty.ensures.value in
+    fails _ _ _ _ _ c.from_residual-in_err-weighty.ensures.0
+    (bracketed_deep (sym minus.0 ∙ deep.3) (sym minus.1 ∙ deep.0))
+
+pub factor-returns-in_err-inner-clause-value : goal.factor-returns-in_err-inner-clause-value
+factor-returns-in_err-inner-clause-value t c =
+    let minus = rw c.in_default.is at c.in_ok-line.ensures.value in
+    let paren = weighty_taken _ _ _ _ _ _ c.in_ok-weighty.ensures.value (sym c.is_some.ensures ∙ c.if-is_some.true) in
+    let start = sym minus.0 ∙ paren.1 in
+    let spends = sym minus.1 ∙ paren.2 in
+    part_fails (ReadsWithin sum c.weighty-2.new.allowed) (Ends sum) c.weighty-2.new.reader c.sum.new.reader _ _ _ _ _ _
+    c.in_err-inner.ensures.value c.from_residual-in_err-inner.ensures.1 (bracketed_none start spends)
+
+pub factor-returns-in_err-expect-clause-value : goal.factor-returns-in_err-expect-clause-value
+factor-returns-in_err-expect-clause-value t c =
+    let minus = rw c.in_default.is at c.in_ok-line.ensures.value in
+    let paren = weighty_taken _ _ _ _ _ _ c.in_ok-weighty.ensures.value (sym c.is_some.ensures ∙ c.if-is_some.true) in
+    let start = sym minus.0 ∙ paren.1 in
+    let spends = sym minus.1 ∙ paren.2 in
+    let missing = c.in_err-expect.ensures.value in
+    fails _ _ _ _ _ c.from_residual-in_err-expect.ensures.0
+    (bracketed_open start spends c.in_ok-inner.ensures.value missing.1)
+
+pub factor-returns-then-is_some-clause-value : goal.factor-returns-then-is_some-clause-value
+factor-returns-then-is_some-clause-value t c =
+    let minus = rw c.in_default.is at c.in_ok-line.ensures.value in
+    let paren = weighty_taken _ _ _ _ _ _ c.in_ok-weighty.ensures.value (sym c.is_some.ensures ∙ c.if-is_some.true) in
+    let start = sym minus.0 ∙ paren.1 in
+    let spends = sym minus.1 ∙ paren.2 in
+    bracketed_front start spends c.in_ok-inner.ensures.value c.in_ok-expect.ensures.value
+
+pub factor-returns-in-Some-take_number-clause-value :
+    goal.factor-returns-in-Some-take_number-clause-value
+factor-returns-in-Some-take_number-clause-value t c =
+    let minus = rw c.in_default.is at c.in_ok-line.ensures.value in
+    let paren = weighty_missed _ _ _ _ _ _ c.in_ok-weighty.ensures.value (sym c.is_some.ensures ∙ c.if-is_some.false) in
+    let back = paren.0 ∙ minus.0 in
+    let start = sym back ∙ c.in-Some-take_number.ensures.value in
+    let fits : FitsSigned w128 c.in-Some-take_number.value = search rules in
+    simp to_z-of_z (number_front start)
+
+pub factor-returns-in_err-name-clause-value : goal.factor-returns-in_err-name-clause-value
+factor-returns-in_err-name-clause-value t c =
+    let minus = rw c.in_default.is at c.in_ok-line.ensures.value in
+    let paren = weighty_missed _ _ _ _ _ _ c.in_ok-weighty.ensures.value (sym c.is_some.ensures ∙ c.if-is_some.false) in
+    let back = paren.0 ∙ minus.0 in
+    let numbered = c.in_default-take_number.ensures.value in
+    word_fails c.take_number.new.self c.expect_name.new.self _ _ _ _ _ _
+    c.in_err-name.ensures.value c.from_residual-in_err-name.ensures.1
+    (λ named. no_factor minus.2 (subst (NotMark kind.LeftParen) minus.0 paren.2) (subst NotNumeral back numbered.1) (subst NotWord (numbered.0 ∙ back) named))
+
+pub factor-returns-in_err-weighty-2-clause-value :
+    goal.factor-returns-in_err-weighty-2-clause-value
+factor-returns-in_err-weighty-2-clause-value t c =
+    let minus = rw c.in_default.is at c.in_ok-line.ensures.value in
+    let paren = weighty_missed _ _ _ _ _ _ c.in_ok-weighty.ensures.value (sym c.is_some.ensures ∙ c.if-is_some.false) in
+    let back = paren.0 ∙ minus.0 in
+    let kept = paren.1 ∙ minus.1 in
+    let numbered = c.in_default-take_number.ensures.value in
+    let same = numbered.0 ∙ back in
+    let start = sym same ∙ c.in_ok-name.ensures.value in
+    let deep = c.in_err-weighty-2.ensures.value in
+    fails _ _ _ _ _ c.from_residual-in_err-weighty-2.ensures.0
+    (element_deep start deep.3 (sym kept ∙ deep.0))
+
+pub factor-returns-then-is_none-clause-value : goal.factor-returns-then-is_none-clause-value
+factor-returns-then-is_none-clause-value t c =
+    let minus = rw c.in_default.is at c.in_ok-line.ensures.value in
+    let paren = weighty_missed _ _ _ _ _ _ c.in_ok-weighty.ensures.value (sym c.is_some.ensures ∙ c.if-is_some.false) in
+    let back = paren.0 ∙ minus.0 in
+    let numbered = c.in_default-take_number.ensures.value in
+    let same = numbered.0 ∙ back in
+    let start = sym same ∙ c.in_ok-name.ensures.value in
+    let bracket = weighty_missed _ _ _ _ _ _ c.in_ok-weighty-2.ensures.value (c.is_none.ensures ∙ ap not c.if-is_none.true) in
+    rw bracket.0 (name_front start bracket.2)
+
+pub factor-returns-in_err-index-clause-value : goal.factor-returns-in_err-index-clause-value
+factor-returns-in_err-index-clause-value t c =
+    let minus = rw c.in_default.is at c.in_ok-line.ensures.value in
+    let paren = weighty_missed _ _ _ _ _ _ c.in_ok-weighty.ensures.value (sym c.is_some.ensures ∙ c.if-is_some.false) in
+    let back = paren.0 ∙ minus.0 in
+    let kept = paren.1 ∙ minus.1 in
+    let numbered = c.in_default-take_number.ensures.value in
+    let same = numbered.0 ∙ back in
+    let start = sym same ∙ c.in_ok-name.ensures.value in
+    let bracket = weighty_taken _ _ _ _ _ _ c.in_ok-weighty-2.ensures.value (c.is_none.ensures ∙ ap not c.if-is_none.false) in
+    let spends = sym kept ∙ bracket.2 in
+    part_fails (ReadsWithin sum c.weighty-3.new.allowed) (Ends sum) c.weighty-3.new.reader c.sum-2.new.reader _ _ _ _ _ _
+    c.in_err-index.ensures.value c.from_residual-in_err-index.ensures.1 (element_none start bracket.1 spends)
+
+pub factor-returns-in_err-expect-2-clause-value : goal.factor-returns-in_err-expect-2-clause-value
+factor-returns-in_err-expect-2-clause-value t c =
+    let minus = rw c.in_default.is at c.in_ok-line.ensures.value in
+    let paren = weighty_missed _ _ _ _ _ _ c.in_ok-weighty.ensures.value (sym c.is_some.ensures ∙ c.if-is_some.false) in
+    let back = paren.0 ∙ minus.0 in
+    let kept = paren.1 ∙ minus.1 in
+    let numbered = c.in_default-take_number.ensures.value in
+    let same = numbered.0 ∙ back in
+    let start = sym same ∙ c.in_ok-name.ensures.value in
+    let bracket = weighty_taken _ _ _ _ _ _ c.in_ok-weighty-2.ensures.value (c.is_none.ensures ∙ ap not c.if-is_none.false) in
+    let spends = sym kept ∙ bracket.2 in
+    let missing = c.in_err-expect-2.ensures.value in
+    fails _ _ _ _ _ c.from_residual-in_err-expect-2.ensures.0
+    (element_open start bracket.1 spends c.in_ok-index.ensures.value missing.1)
+
+pub factor-returns-clause-value : goal.factor-returns-clause-value
+factor-returns-clause-value t c =
+    let minus = rw c.in_default.is at c.in_ok-line.ensures.value in
+    let paren = weighty_missed _ _ _ _ _ _ c.in_ok-weighty.ensures.value (sym c.is_some.ensures ∙ c.if-is_some.false) in
+    let back = paren.0 ∙ minus.0 in
+    let kept = paren.1 ∙ minus.1 in
+    let numbered = c.in_default-take_number.ensures.value in
+    let same = numbered.0 ∙ back in
+    let start = sym same ∙ c.in_ok-name.ensures.value in
+    let bracket = weighty_taken _ _ _ _ _ _ c.in_ok-weighty-2.ensures.value (c.is_none.ensures ∙ ap not c.if-is_none.false) in
+    let spends = sym kept ∙ bracket.2 in
+    rw c.in_ok-index-2.ensures (element_front start bracket.1 spends c.in_ok-index.ensures.value c.in_ok-expect-2.ensures.value)
+
+pub sum-returns-in_err-left-clause-value : goal.sum-returns-in_err-left-clause-value
+sum-returns-in_err-left-clause-value t c =
+    part_fails (ReadsWithin term c.args.allowed.now) (Ends term) c.args.reader.now c.term.new.reader _ _ _ _ _ _
+    c.in_err-left.ensures.value c.from_residual.ensures.1 (no_first_part sum)
+
+pub sum-loop-left-init : goal.sum-loop-left-init
+sum-loop-left-init t c =
+    joining_starts c.in_ok-left.ensures.value c.in_ok-left.ensures.spent c.in_ok-left.ensures.shorter
+
+pub sum-returns-in_err-operator-clause-value : goal.sum-returns-in_err-operator-clause-value
+sum-returns-in_err-operator-clause-value t c =
+    let deep = c.in_err-operator.ensures.value in
+    fails _ _ _ _ _ c.from_residual-in_err-operator.ensures.0
+    (no_operator_allowed c.loop-left.invariant deep.4 deep.5 deep.6)
+
+pub sum-returns-in_err-right-clause-value : goal.sum-returns-in_err-right-clause-value
+sum-returns-in_err-right-clause-value t c =
+    let sign = rw c.in-Some.is at c.in_ok-operator.ensures.value in
+    part_fails (ReadsWithin term c.sign_of_sum.new.allowed) (Ends term) c.sign_of_sum.new.reader c.term-in-Some.new.reader _ _ _ _ _ _
+    c.in_err-right.ensures.value c.from_residual-in_err-right.ensures.1
+    (no_right_part c.loop-left.invariant sign.1 sign.2 sign.3)
+
+pub sum-loop-left-preserved : goal.sum-loop-left-preserved
+sum-loop-left-preserved t c =
+    let sign = rw c.in-Some.is at c.in_ok-operator.ensures.value in
+    let right = c.in_ok-right.ensures in
+    rw c.in_ok-left-2.ensures (joining_turns c.loop-left.invariant sign.1 sign.2 sign.3 right.value right.spent right.shorter)
+
+pub sum-returns-clause-value : goal.sum-returns-clause-value
+sum-returns-clause-value t c =
+    let none = rw c.in_default.is at c.in_ok-operator.ensures.value in
+    rw none.0 (joining_ends c.loop-left.invariant none.2)
+
+pub term-returns-in_err-left-clause-value : goal.term-returns-in_err-left-clause-value
+term-returns-in_err-left-clause-value t c =
+    part_fails (ReadsWithin factor c.args.allowed.now) (Ends factor) c.args.reader.now c.factor.new.reader _ _ _ _ _ _
+    c.in_err-left.ensures.value c.from_residual.ensures.1 (no_first_part term)
+
+pub term-loop-left-init : goal.term-loop-left-init
+term-loop-left-init t c =
+    joining_starts c.in_ok-left.ensures.value c.in_ok-left.ensures.spent c.in_ok-left.ensures.shorter
+
+pub term-returns-in_err-operator-clause-value : goal.term-returns-in_err-operator-clause-value
+term-returns-in_err-operator-clause-value t c =
+    let deep = c.in_err-operator.ensures.value in
+    fails _ _ _ _ _ c.from_residual-in_err-operator.ensures.0
+    (no_operator_allowed c.loop-left.invariant deep.4 deep.5 deep.6)
+
+pub term-returns-in_err-right-clause-value : goal.term-returns-in_err-right-clause-value
+term-returns-in_err-right-clause-value t c =
+    let sign = rw c.in-Some.is at c.in_ok-operator.ensures.value in
+    part_fails (ReadsWithin factor c.sign_of_term.new.allowed) (Ends factor) c.sign_of_term.new.reader c.factor-in-Some.new.reader _ _ _ _ _ _
+    c.in_err-right.ensures.value c.from_residual-in_err-right.ensures.1
+    (no_right_part c.loop-left.invariant sign.1 sign.2 sign.3)
+
+pub term-loop-left-preserved : goal.term-loop-left-preserved
+term-loop-left-preserved t c =
+    let sign = rw c.in-Some.is at c.in_ok-operator.ensures.value in
+    let right = c.in_ok-right.ensures in
+    rw c.in_ok-left-2.ensures (joining_turns c.loop-left.invariant sign.1 sign.2 sign.3 right.value right.spent right.shorter)
+
+pub term-returns-clause-value : goal.term-returns-clause-value
+term-returns-clause-value t c =
+    let none = rw c.in_default.is at c.in_ok-operator.ensures.value in
+    rw none.0 (joining_ends c.loop-left.invariant none.2)

@@ -1,0 +1,49 @@
+ghost use Rattle.std.specs.Prelude.{◌≡◌, ◌≤◌, [], OnOk, length};
+ghost use Rattle.source_parser.specs.Grammar.{ReadsProgram};
+ghost use Rattle.source_parser.specs.Fronts.{AtEnd, Tells};
+ghost use Rattle.source_lexer.specs.Scan.{Scans, whole};
+ghost use Rattle.source_parser.specs.Parsed.{IsParsed};
+
+use crate::declaration::{DEPTH, declarations};
+use crate::fault::{Fault, ParseFault};
+use crate::reader::Reader;
+use crate::statement::statements;
+use source_lexer::Token;
+use source_tree::Program;
+use std::alloc::Global;
+
+/// The program that the tokens of a text spell. Otherwise the first token at fault, want of memory aside; a token
+/// that no program goes on with is told as that before it is told as too deep.
+pub fn parse(alloc: Global, text: &[u8], tokens: &[Token]) -> Result<Program, ParseFault>
+    requires { Scans text.now tokens.now whole }
+    ensures { IsParsed text.now tokens.now result }
+{
+    let mut reader = Reader::new(text, tokens);
+    let fault = match program(alloc, &mut reader) {
+        Ok(program) => return Ok(program),
+        Err(fault) => fault,
+    };
+    let place = tokens.len() - reader.len();
+    Err(match fault {
+        Fault::Stops => ParseFault::Stops(place),
+        Fault::Deep => ParseFault::Deep(place),
+        Fault::NoMemory => ParseFault::NoMemory,
+    })
+}
+
+/// Declarations, and then statements up to the end.
+fn program(alloc: Global, reader: &mut Reader<'_>) -> Result<Program, Fault>
+    ensures value { Tells (ReadsProgram 64 200) AtEnd reader.old result reader.new }
+    ensures whole { OnOk result (reader.new ≡ []) }
+    ensures shorter { length reader.new ≤ length reader.old }
+{
+    let declarations = declarations(alloc, reader)?;
+    let statements = statements(alloc, reader, DEPTH)?;
+    if reader.len() > 0 {
+        return Err(Fault::Stops);
+    }
+    Ok(Program {
+        declarations,
+        statements,
+    })
+}

@@ -1,0 +1,107 @@
+mod places;
+
+use crate::{ParseFault, parse};
+use places::PLACES;
+use source_lexer::tokens;
+use source_tree::{Expr, Operator, Program, Statement};
+use std::alloc::Global;
+use std::test::Fail;
+
+/// A text in which `{N TEXT}` stands for TEXT N times.
+fn spread(alloc: Global, text: &str) -> Result<String, Fail> {
+    let mut made = String::new(alloc);
+    for piece in text.split('{') {
+        match piece.split_once('}') {
+            None => made.push_str(piece)?,
+            Some((inside, behind)) => {
+                if let Some((number, part)) = inside.split_once(' ') {
+                    for _ in 0..number.parse::<usize>()? {
+                        made.push_str(part)?;
+                    }
+                }
+                made.push_str(behind)?;
+            }
+        }
+    }
+    Ok(made)
+}
+
+/// What the tokens of a text spell. No text here is cut by the limit.
+fn parsed(alloc: Global, text: &str) -> Result<Result<Program, ParseFault>, Fail> {
+    let text = &text.as_bytes()[..text.len().min(100_000)];
+    let tokens = tokens(alloc, text)?;
+    Ok(parse(alloc, text, tokens.as_slice()))
+}
+
+/// What is told of a text, as the table writes it.
+fn told(alloc: Global, text: &str) -> Result<String, Fail> {
+    Ok(match parsed(alloc, text)? {
+        Ok(_) => format!(in alloc; "ok")?,
+        Err(ParseFault::Stops(place)) => format!(in alloc; "stops {place}")?,
+        Err(ParseFault::Deep(place)) => format!(in alloc; "deep {place}")?,
+        Err(ParseFault::NoMemory) => format!(in alloc; "no memory")?,
+    })
+}
+
+/// Whether this is `1 - 2 - 3` from the left, over three lines, with the lines of its nodes.
+fn is_left_difference(value: &Expr) -> bool {
+    let Expr::Binary {
+        left,
+        operator: Operator::Sub,
+        right,
+        line: 3,
+    } = value
+    else {
+        return false;
+    };
+    matches!(
+        left.get(),
+        Expr::Binary {
+            operator: Operator::Sub,
+            line: 2,
+            ..
+        }
+    ) && matches!(right.get(), Expr::Number { value: 3, line: 3 })
+}
+
+#[test]
+fn trees(rt: HostRuntime) -> Result<(), Fail> {
+    match parsed(rt.alloc(), "print (1)\n- 2\n- 3;\nif 1 < 2 then else end")? {
+        Ok(program) => {
+            assert!(rt; program.declarations.is_empty());
+            match program.statements.get(0) {
+                Some(Statement::Print { value, line: 1 }) => {
+                    assert!(rt; is_left_difference(value));
+                }
+                _ => assert!(rt; false),
+            }
+            match program.statements.get(1) {
+                Some(
+                    Statement::If {
+                        second,
+                        line: 4,
+                        ..
+                    },
+                ) => assert!(rt; second.is_empty()),
+                _ => assert!(rt; false),
+            }
+        }
+        Err(_) => assert!(rt; false),
+    }
+    Ok(())
+}
+
+#[test]
+fn where_tokens_stop(rt: HostRuntime) -> Result<(), Fail> {
+    for line in PLACES.lines() {
+        match line.split_once(" | ") {
+            Some((wanted, text)) => {
+                let text = spread(rt.alloc(), text)?;
+                let found = told(rt.alloc(), text.as_str())?;
+                assert_eq!(rt; found.as_str(), wanted, "{line}");
+            }
+            None => assert!(rt; false, "{line}"),
+        }
+    }
+    Ok(())
+}
