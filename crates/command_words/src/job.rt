@@ -11,11 +11,28 @@ pub struct FileWord {
 #[derive(Clone, Debug, PartialEq, Eq, Drop)]
 pub enum Job {
     /// Run a thin source on `pocket`.
-    Run { source: FileWord },
+    Run {
+        source: FileWord,
+    },
     /// Print what a vector stands for. It has one residue for each channel, below its modulus.
-    Decode { set: SetName, residues: Vector },
+    Decode {
+        set: SetName,
+        residues: Vector,
+    },
     /// Print the residues of x, which is in range.
-    Encode { set: SetName, x: i128 },
+    Encode {
+        set: SetName,
+        x: i128,
+    },
+    /// Print what a source means on an input, or on none, on a set, in so many visits at most.
+    Mean {
+        source: FileWord,
+        input: Option<FileWord>,
+        set: SetName,
+        steps: u32,
+    },
     /// Print the moduli, the number of information moduli and the range.
-    Set { set: SetName },
+    Set {
+        set: SetName,
+    },
 }

@@ -12,6 +12,16 @@ fn words_of(alloc: Global, words: &[&str]) -> Result<Vec<String>, AllocError> {
     Ok(made)
 }
 
+/// The job that takes its source from word 1, no input and the set desk.
+fn mean_on_desk(steps: u32) -> Job {
+    Job::Mean {
+        source: FileWord { word: 1, skip: 0 },
+        input: None,
+        set: SetName::Desk,
+        steps,
+    }
+}
+
 #[test]
 fn jobs(rt: HostRuntime) -> Result<(), Fail> {
     let run = Job::Run {
@@ -25,6 +35,15 @@ fn jobs(rt: HostRuntime) -> Result<(), Fail> {
         set: SetName::Pocket,
         residues: Moduli::of(SetName::Pocket).residues_of(42),
     };
+    let plain = mean_on_desk(1_000_000);
+    let chosen = Job::Mean {
+        source: FileWord { word: 2, skip: 0 },
+        input: Some(FileWord { word: 4, skip: 0 }),
+        set: SetName::Hall,
+        steps: 7,
+    };
+    let longest = mean_on_desk(1_000_000_000);
+    let shortest = mean_on_desk(1);
     for (words, job) in [
         ([].as_slice(), None),
         (&["run", "a.src", "-", "--set=pocket"], Some(run)),
@@ -70,6 +89,26 @@ fn jobs(rt: HostRuntime) -> Result<(), Fail> {
         (&["decode", "pocket", "-3", "12", "10", "8", "4"], None),
         (&["decode", "pocket", "", "12", "10", "8", "4"], None),
         (&["decode"], None),
+        (&["mean", "a.src", "-"], Some(plain)),
+        (
+            &["mean", "--steps=7", "a.src", "--set=hall", "b"],
+            Some(chosen),
+        ),
+        (&["mean", "a", "-", "--steps=1000000000"], Some(longest)),
+        (&["mean", "a", "-", "--steps=0000000001"], Some(shortest)),
+        (&["mean"], None),
+        (&["mean", "a"], None),
+        (&["mean", "a", "b", "c"], None),
+        (&["mean", "-", "-"], None),
+        (&["mean", "a", ""], None),
+        (&["mean", "a", "-", "--set=desk", "--set=desk"], None),
+        (&["mean", "a", "-", "--set=tiny"], None),
+        (&["mean", "a", "-", "--steps="], None),
+        (&["mean", "a", "-", "--steps=0"], None),
+        (&["mean", "a", "-", "--steps=1000000001"], None),
+        (&["mean", "a", "-", "--steps=00000000001"], None),
+        (&["mean", "a", "-", "--journal"], None),
+        (&["mean", "a", "-", "--"], None),
     ] {
         let words = words_of(rt.alloc(), words)?;
         assert_eq!(rt; job_of(words.as_slice()), job);

@@ -1,6 +1,6 @@
 -- How the parts of the top call end, and what its answer is in each case.
-use Rattle.std.proofs.Common.{◌≡◌, ℕ, ◌<◌, ◌≤◌, ◌⊎◌, ◌+◌, Bool, true, false, List, [], ◌∷◌, length, take, ◌++◌, min, Option, Some, None, MatchOption, nat_lt, refl, sym, subst, ◌∙◌, ap, inl, inr, arith}
-use Rattle.std.specs.Prelude.{IfSome, IsSomeAnd, option_and_then, if◌then◌else◌, replicate}
+use Rattle.std.proofs.Common.{◌≡◌, ℕ, zero, suc, ◌<◌, ◌≤◌, ◌⊎◌, ◌+◌, Bool, true, false, List, [], ◌∷◌, length, take, ◌++◌, min, Option, Some, None, MatchOption, nat_lt, refl, sym, subst, ◌∙◌, ap, inl, inr, arith}
+use Rattle.std.specs.Prelude.{IfSome, IsSomeAnd, if◌then◌else◌, replicate}
 use Rattle.std.specs.Bool.{MatchBool}
 use Rattle.std.proofs.lemmas.Grind.{common_steps}
 use Rattle.std.proofs.lemmas.List.{length-replicate, take-append-le, take_min}
@@ -10,17 +10,17 @@ use Rattle.outside.specs.Faults.{Rose}
 use Rattle.outside.specs.Sink.{SinkState, WroteAll, BrokeOff, PutsPieces}
 use Rattle.outside.specs.declared.sink.Put.TheVariants.{Failed}
 use Rattle.outside.specs.Runs.{WroteAll-append, BrokeOff-append}
-use Rattle.outside.specs.Shelf.{Held, file_of, or_other}
+use Rattle.outside.specs.Shelf.{Held, ShelfState, TellsMissing, file_of, or_other}
+use Rattle.std.specs.Option.{option_map_or}
 use Rattle.rnm_engine.specs.declared.status.Status.{Status}
 use Rattle.rnm_engine.specs.declared.status.Status.TheVariants.{Ok, NoMemory, Usage, Unread, Unwritten, SourceRefused, InputRefused, PlanRefused, Trap, Damage, Spent, ObjectRefused, ScriptRefused, TooLong}
-use Rattle.command_words.specs.declared.job.FileWord.{FileWord}
 use Rattle.command_words.specs.declared.job.Job.{Job}
-use Rattle.command_words.specs.declared.job.Job.TheVariants.{Run}
-use Rattle.command_words.specs.Words.{file_name, job_of_words}
+use Rattle.command_words.specs.Words.{job_of_words}
 use Rattle.redundant_decoder.specs.declared.decoder.Verdict.{Verdict}
 use Rattle.redundant_decoder.specs.declared.decoder.Verdict.TheVariants.{Clean, Corrected, Damaged}
 use Rattle.rnm_engine.specs.Decode.{verdict_status}
-use Rattle.rnm_engine.specs.Answer.{file_limit, usage_lines, unread_lines, too_long_lines, IsSourceAnswer, IsFileAnswer, IsRunAnswer, IsJobAnswer, IsAnswer, IsStrayOf, IsStray, file_of_job, StatusLeaves, SourceLeaves, EndsPut, EndsWith, Agrees}
+use Rattle.rnm_engine.specs.Answer.{file_limit, usage_lines, unread_lines, too_long_lines, IsSourceAnswer, WithFile, IsJobAnswer, IsAnswer, IsStray, IsStrayAmong, SomeName, files_of_job, named_files, StatusLeaves, SourceLeaves, RefusalLeaves, EndsPut, EndsWith, Agrees}
+use Rattle.rnm_engine.specs.Refusal.{IsRefusal}
 
 -- ---- what a shelf holds, or may hold where it doesn't tell
 
@@ -55,34 +55,49 @@ held_missing (Some held) name h = (held, refl, h)
 
 -- ---- what the answer is
 
-module _ (held : Held) (name : List ℕ) where
-  pub answer_missing : file_of held name ≡ None → IsRunAnswer held name (unread_lines name) Unread
+module _ (file : Option (List ℕ)) (name : List ℕ) (IsTextAnswer : List ℕ → List (List ℕ) → Status → Type 0) where
+  pub answer_missing : file ≡ None → WithFile file name IsTextAnswer (unread_lines name) Unread
   answer_missing missing =
-      let P : Option (List ℕ) → Type 0 = λ o. MatchOption o ((unread_lines name ≡ unread_lines name) × (Unread ≡ Unread)) (λ text. IsFileAnswer name text (unread_lines name) Unread) in
+      let P : Option (List ℕ) → Type 0 = λ o. WithFile o name IsTextAnswer (unread_lines name) Unread in
       subst P (sym missing) (refl, refl)
 
-  by_text : (text : List ℕ) (pieces : List (List ℕ)) (status : Status) → file_of held name ≡ Some text → IsFileAnswer name text pieces status → IsRunAnswer held name pieces status
-  by_text text pieces status found h =
-      let P : Option (List ℕ) → Type 0 = λ o. MatchOption o ((pieces ≡ unread_lines name) × (status ≡ Unread)) (λ text. IsFileAnswer name text pieces status) in
-      subst P (sym found) h
-
-  pub answer_longer : (text : List ℕ) → file_of held name ≡ Some text → file_limit < length text → IsRunAnswer held name (too_long_lines name) TooLong
+  pub answer_longer : (text : List ℕ) → file ≡ Some text → file_limit < length text → WithFile file name IsTextAnswer (too_long_lines name) TooLong
   answer_longer text found longer =
-      let P : Bool → Type 0 = λ b. MatchBool b ((too_long_lines name ≡ too_long_lines name) × (TooLong ≡ TooLong)) (IsSourceAnswer text (too_long_lines name) TooLong) in
+      let P : Bool → Type 0 = λ b. MatchBool b ((too_long_lines name ≡ too_long_lines name) × (TooLong ≡ TooLong)) (IsTextAnswer text (too_long_lines name) TooLong) in
       let is_longer : nat_lt file_limit (length text) ≡ true = grind (arith, common_steps) in
-      by_text text (too_long_lines name) TooLong found (subst P (sym is_longer) (refl, refl))
+      let Q : Option (List ℕ) → Type 0 = λ o. WithFile o name IsTextAnswer (too_long_lines name) TooLong in
+      subst Q (sym found) (subst P (sym is_longer) (refl, refl))
 
-  pub answer_source : (text : List ℕ) (pieces : List (List ℕ)) (status : Status) → file_of held name ≡ Some text → length text ≤ file_limit → IsSourceAnswer text pieces status → IsRunAnswer held name pieces status
-  answer_source text pieces status found fits h =
-      let P : Bool → Type 0 = λ b. MatchBool b ((pieces ≡ too_long_lines name) × (status ≡ TooLong)) (IsSourceAnswer text pieces status) in
+  pub answer_text : (text : List ℕ) (pieces : List (List ℕ)) (status : Status) → file ≡ Some text → length text ≤ file_limit → IsTextAnswer text pieces status → WithFile file name IsTextAnswer pieces status
+  answer_text text pieces status found fits h =
+      let P : Bool → Type 0 = λ b. MatchBool b ((pieces ≡ too_long_lines name) × (status ≡ TooLong)) (IsTextAnswer text pieces status) in
       let is_longer : nat_lt file_limit (length text) ≡ false = grind (arith, common_steps) in
-      by_text text pieces status found (subst P (sym is_longer) h)
+      let Q : Option (List ℕ) → Type 0 = λ o. WithFile o name IsTextAnswer pieces status in
+      subst Q (sym found) (subst P (sym is_longer) h)
 
 -- the answer to words that ask for a job is the answer to the job
-pub answer_for : (held : Held) (words : List (List ℕ)) (job : Option Job) (pieces : List (List ℕ)) (status : Status) → job ≡ job_of_words words → MatchOption job ((pieces ≡ usage_lines) × (status ≡ Usage)) (λ j. IsJobAnswer held words j pieces status) → IsAnswer held words pieces status
+pub answer_for : (held : ℕ → Held) (words : List (List ℕ)) (job : Option Job) (pieces : List (List ℕ)) (status : Status) → job ≡ job_of_words words → MatchOption job ((pieces ≡ usage_lines) × (status ≡ Usage)) (λ j. IsJobAnswer held words j pieces status) → IsAnswer held words pieces status
 answer_for held words job pieces status is h =
     let P : Option Job → Type 0 = λ o. MatchOption o ((pieces ≡ usage_lines) × (status ≡ Usage)) (λ j. IsJobAnswer held words j pieces status) in
     subst P is h
+
+-- the same for a stray refusal, and for a file that isn't there
+pub stray_for : (before now : ℕ) (words : List (List ℕ)) (job : Option Job) (pieces : List (List ℕ)) → job ≡ job_of_words words
+    → IsStrayAmong before now (option_map_or (files_of_job words) job []) pieces → IsStray before now words pieces
+stray_for before now words job pieces is h = subst (λ o. IsStrayAmong before now (option_map_or (files_of_job words) o []) pieces) is h
+
+pub missing_for : (shelf : ShelfState) (words : List (List ℕ)) (job : Option Job) → job ≡ job_of_words words
+    → SomeName (TellsMissing shelf) (option_map_or (files_of_job words) job []) → SomeName (TellsMissing shelf) (named_files words)
+missing_for shelf words job is h = subst (λ o. SomeName (TellsMissing shelf) (option_map_or (files_of_job words) o [])) is h
+
+-- what a shelf holds at the first fetch, and at each later one
+abbrev pub either_of : Held → Held → ℕ → Held
+either_of first later zero = first
+either_of first later (suc n) = later
+
+pub agrees_either : (told : Option Held) (first later : Held) → Agrees told first → Agrees told later → (n : ℕ) → Agrees told (either_of first later n)
+agrees_either told first later h k zero = h
+agrees_either told first later h k (suc n) = k
 
 -- ---- how a part of the call ends
 
@@ -190,9 +205,31 @@ module _ {K : Type 0} (took : K → List ℕ → K → Type 0) (state : K → Si
         | inr (is, (n, broke)) ↦ absurd (no_fault broke.rose)
       ]
 
-  -- what running a source leaves is what the words that ask for it leave
-  pub leaves_run : (held : Held) (words : List (List ℕ)) (source : FileWord) (name : List ℕ) (before after : ℕ) (result : Status) (new : K) → name ≡ file_name words source → Some (Run source) ≡ job_of_words words → StatusLeaves took state old (IsRunAnswer held name) (IsStrayOf before after name) result new → StatusLeaves took state old (IsAnswer held words) (IsStray before after words) result new
-  leaves_run held words source name before after result new named is h =
-      let by_name : List ℕ → Type 0 = λ n. StatusLeaves took state old (IsRunAnswer held n) (IsStrayOf before after n) result new in
-      let by_job : Option Job → Type 0 = λ o. StatusLeaves took state old (λ pieces status. MatchOption o ((pieces ≡ usage_lines) × (status ≡ Usage)) (λ j. IsJobAnswer held words j pieces status)) (λ pieces. MatchOption (option_and_then (file_of_job words) o) ⊥ (λ n. IsStrayOf before after n pieces)) result new in
-      subst by_job is (subst by_name named h)
+  -- the same ending, of answers and strays that are others too
+  pub leaves_as : (answers others : List (List ℕ) → Status → Type 0) (stray strays : List (List ℕ) → Type 0)
+      → ((pieces : List (List ℕ)) (status : Status) → answers pieces status → others pieces status) → ((pieces : List (List ℕ)) → stray pieces → strays pieces)
+      → (result : Status) (new : K) → StatusLeaves took state old answers stray result new → StatusLeaves took state old others strays result new
+  leaves_as answers others stray strays f g NoMemory new h = h
+  leaves_as answers others stray strays f g Unread new h = (h.0, elim h.1 [ inl a ↦ inl (f h.0 Unread a) | inr s ↦ inr (g h.0 s) ], h.2)
+  leaves_as answers others stray strays f g Unwritten new h = (h.0, elim h.1 [ inl a ↦ inl (a.0, f h.0 a.0 a.1) | inr s ↦ inr (g h.0 s) ], h.2)
+  leaves_as answers others stray strays f g Ok new h = (h.0, f h.0 Ok h.1, h.2)
+  leaves_as answers others stray strays f g Usage new h = (h.0, f h.0 Usage h.1, h.2)
+  leaves_as answers others stray strays f g SourceRefused new h = (h.0, f h.0 SourceRefused h.1, h.2)
+  leaves_as answers others stray strays f g InputRefused new h = (h.0, f h.0 InputRefused h.1, h.2)
+  leaves_as answers others stray strays f g PlanRefused new h = (h.0, f h.0 PlanRefused h.1, h.2)
+  leaves_as answers others stray strays f g Trap new h = (h.0, f h.0 Trap h.1, h.2)
+  leaves_as answers others stray strays f g Damage new h = (h.0, f h.0 Damage h.1, h.2)
+  leaves_as answers others stray strays f g Spent new h = (h.0, f h.0 Spent h.1, h.2)
+  leaves_as answers others stray strays f g ObjectRefused new h = (h.0, f h.0 ObjectRefused h.1, h.2)
+  leaves_as answers others stray strays f g ScriptRefused new h = (h.0, f h.0 ScriptRefused h.1, h.2)
+  leaves_as answers others stray strays f g TooLong new h = (h.0, f h.0 TooLong h.1, h.2)
+
+  -- the end of refusing a source text
+  pub leaves_refusal : (answers : List (List ℕ) → Status → Type 0) (stray : List (List ℕ) → Type 0) (text : List ℕ) (result : Status) (new : K)
+      → ((pieces : List (List ℕ)) → IsRefusal text pieces → answers pieces SourceRefused) → RefusalLeaves took state old text result new → StatusLeaves took state old answers stray result new
+  leaves_refusal answers stray text result new answer ends =
+      let P : Status → Type 0 = λ s. StatusLeaves took state old answers stray s new in
+      elim ends [
+        | inl (pieces, refusal, put) ↦ leaves_answer answers stray SourceRefused refl pieces result new (answer pieces refusal) (inl put)
+        | inr (is, w) ↦ subst P (sym is) w
+      ]

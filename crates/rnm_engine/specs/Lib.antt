@@ -12,5 +12,9 @@ pub use Rattle.thin_source.specs.ThinTree
 pub use Rattle.thin_source.specs.ThinMeaning
 pub mod Sets
 pub mod Decode
+pub use Rattle.source_lexer.specs.Scan
+pub use Rattle.source_tree.specs.Meaning
+pub use Rattle.source_parser.specs.Parsed
+pub mod Refusal
 pub mod Answer
 pub mod StatusNumber

@@ -1,17 +1,19 @@
-ghost use Rattle.std.specs.Prelude.{◌≡◌, ◌≢◌, ℕ, ◌⊎◌, List, [], map, None, Some, MatchOption};
+ghost use Rattle.std.specs.Prelude.{◌≡◌, ◌≢◌, ℕ, ◌<◌, ◌⊎◌, List, [], map, length, IfSome, None, Some};
+ghost use Rattle.std.specs.Option.{option_map};
 ghost use Rattle.std.specs.String.{string_bytes};
-ghost use Rattle.command_words.specs.Words.{job_of_words};
+ghost use Rattle.command_words.specs.Words.{file_name, job_of_words};
 ghost use Rattle.outside.specs.Faults.{Rose};
 ghost use Rattle.outside.specs.Shelf.{Held, TellsMissing};
 ghost use Rattle.outside.specs.Sink.{WroteAll, StaysTimely};
-ghost use Rattle.rnm_engine.specs.Answer.{named_file, IsAnswer, IsStray, Agrees, StatusLeaves};
+ghost use Rattle.rnm_engine.specs.Answer.{named_files, SomeName, FetchesInOrder, IsAnswer, IsStray, Agrees, StatusLeaves};
 
 use crate::decode::decode;
 use crate::ending::finish;
+use crate::mean::mean;
 use crate::run::run;
 use crate::sets::{describe, encode};
 use crate::status::Status;
-use command_words::{Job, job_of, name_of};
+use command_words::{FileWord, Job, job_of, name_of};
 use moduli_sets::Moduli;
 use outside::{Shelf, Sink};
 use std::alloc::Global;
@@ -25,8 +27,8 @@ pub fn rnm<S: Shelf, K: Sink>(
     sink: &mut K,
 ) -> Status
     // What is put and the status are those of the answer over the files that the shelf holds. Where it doesn't
-    // tell them, they are those of the answer over some files.
-    ensures answer { (held : Held) × Agrees (S.state shelf.old).told held
+    // tell them, they are those of the answer over some files at each fetch.
+    ensures answer { (held : ℕ → Held) × ((n : ℕ) → Agrees (S.state shelf.old).told (held n))
         × StatusLeaves K.took K.state sink.old (IsAnswer held (map string_bytes words.now))
         (IsStray (S.state shelf.old).faults (S.state shelf.new).faults (map string_bytes words.now)) result sink.new }
     // Without faults the whole answer is put, or memory ran out and nothing is.
@@ -34,26 +36,41 @@ pub fn rnm<S: Shelf, K: Sink>(
         → ¬ (Rose (S.state shelf.old).faults (S.state shelf.new).faults)
         → ¬ (Rose (K.state sink.old).faults (K.state sink.new).faults)
         → ((result ≡ Status.NoMemory) × WroteAll K.took K.state sink.old [] sink.new)
-        ⊎ ((pieces : List (List ℕ)) × IsAnswer held (map string_bytes words.now) pieces result × WroteAll K.took K.state sink.old pieces sink.new) }
+        ⊎ ((pieces : List (List ℕ)) × IsAnswer (λ _. held) (map string_bytes words.now) pieces result × WroteAll K.took K.state sink.old pieces sink.new) }
 
     // Words that are no job, and jobs without a file, take no memory.
     ensures usage { job_of_words (map string_bytes words.now) ≡ None → (result ≡ Status.Usage) ⊎ (result ≡ Status.Unwritten) }
-    ensures memory { named_file (map string_bytes words.now) ≡ None → result ≢ Status.NoMemory }
+    ensures memory { named_files (map string_bytes words.now) ≡ [] → result ≢ Status.NoMemory }
     ensures unread { result ≡ Status.Unread → Rose (S.state shelf.old).faults (S.state shelf.new).faults
-        ⊎ MatchOption (named_file (map string_bytes words.now)) ⊥ (TellsMissing (S.state shelf.old)) }
+        ⊎ SomeName (TellsMissing (S.state shelf.old)) (named_files (map string_bytes words.now)) }
     ensures unwritten { result ≡ Status.Unwritten → Rose (K.state sink.old).faults (K.state sink.new).faults }
     ensures written { result ≢ Status.Unwritten → (K.state sink.new).faults ≡ (K.state sink.old).faults }
     ensures timely { StaysTimely (K.state sink.old) (K.state sink.new) }
 
-    // No file is fetched but the one that the words name, and that once. What the shelf holds stays.
-    ensures fetched { MatchOption (named_file (map string_bytes words.now)) (shelf.new ≡ shelf.old) (λ name. S.fetched shelf.old name shelf.new) }
+    // No file is fetched but those that the words name, in their order and each once. What the shelf holds stays.
+    ensures fetched { FetchesInOrder S.fetched shelf.old (named_files (map string_bytes words.now)) shelf.new }
     ensures told { (S.state shelf.new).told ≡ (S.state shelf.old).told }
 {
     match job_of(words) {
         Some(Job::Run { source }) => run(alloc, name_of(words, source), shelf, sink),
         Some(Job::Decode { set, residues }) => decode(&Moduli::of(set), &residues, sink),
         Some(Job::Encode { set, x }) => encode(&Moduli::of(set), x, sink),
+        Some(Job::Mean { source, input, .. }) => {
+            let input = name_of_any(words, input);
+            mean(alloc, name_of(words, source), input, shelf, sink)
+        }
         Some(Job::Set { set }) => describe(&Moduli::of(set), sink),
         None => finish(sink, b"usage\n", Status::Usage),
+    }
+}
+
+/// The part of the words that names a file, where there is one.
+fn name_of_any(words: &[String], file: Option<FileWord>) -> Option<&str>
+    requires { IfSome file (λ own. (own.word < length words.now) × (own.skip ≡ 0)) }
+    ensures { option_map (λ name. name.now) result ≡ option_map (file_name (map string_bytes words.now)) file }
+{
+    match file {
+        Some(file) => Some(name_of(words, file)),
+        None => None,
     }
 }

@@ -9,6 +9,7 @@ mod answer;
 mod decode;
 mod ending;
 mod lines;
+mod mean;
 mod run;
 mod sets;
 mod status;

@@ -15,7 +15,7 @@ use std::alloc::Global;
 use thin_source::Program;
 
 /// The most bytes that a file may have.
-const FILE_LIMIT: usize = 4_194_304;
+pub const FILE_LIMIT: usize = 4_194_304;
 
 /// Puts the lines behind the prints of a run without faults.
 fn finish_run<K: Sink>(sink: &mut K) -> Status

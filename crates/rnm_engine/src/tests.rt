@@ -136,6 +136,38 @@ fn vectors_are_decoded(rt: HostRuntime) -> Result<(), Fail> {
 }
 
 #[test]
+fn meanings_are_refused(rt: HostRuntime) -> Result<(), Fail> {
+    for (source, refusal) in [
+        (FIRST, "unbuilt 0"),
+        ("print 1;\n\n.\n", "byte 3"),
+        (
+            "print 170141183460469231731687303715884105728;",
+            "long-number 1",
+        ),
+        ("var x 0..9;", "syntax 1"),
+        ("print 1\n", "syntax 2"),
+        ("print 1;\nprint 2 3;\n", "syntax 2"),
+    ] {
+        let words = ["mean", "a.src", "-"];
+        let (status, written) = done(rt.alloc(), &words, source.as_bytes(), &NONE)?;
+        assert_eq!(rt; status, Status::SourceRefused, "{source}");
+        let wanted = format!(in rt.alloc(); "refused source {refusal}\n")?;
+        assert_eq!(rt; written.as_slice(), wanted.as_bytes(), "{source}");
+    }
+    let (status, written) = done(rt.alloc(), &["mean", "a.src", "b.txt"], b"?", &NONE)?;
+    assert_eq!(rt; status, Status::Unread);
+    assert_eq!(rt; written.as_slice(), b"unread b.txt\n".as_slice());
+    let second = Failing {
+        fetches: &[1],
+        puts: &[],
+    };
+    let (status, written) = done(rt.alloc(), &["mean", "a.src", "a.src"], b"?", &second)?;
+    assert_eq!(rt; status, Status::Unread);
+    assert_eq!(rt; written.as_slice(), b"unread a.src\n".as_slice());
+    Ok(())
+}
+
+#[test]
 fn files_are_refused(rt: HostRuntime) -> Result<(), Fail> {
     let missing = ["run", "b.src", "-", "--set=pocket"];
     let (status, written) = done(rt.alloc(), &missing, b"", &NONE)?;
