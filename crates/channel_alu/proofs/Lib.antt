@@ -1,3 +1,4 @@
 pub mod CarryLemmas
 pub mod ModulusForms
 pub mod ResidueForms
+mod Rows

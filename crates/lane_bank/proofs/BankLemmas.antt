@@ -8,7 +8,7 @@ use Rattle.std.proofs.Math.ListN.{set}
 use Rattle.std.proofs.lemmas.List.FromFn.{length-map-range_with_len, get_or-map-range_with_len}
 use Rattle.std.proofs.Math.Seq.{drop-cons, get_or-append_seam}
 use Rattle.moduli_sets.specs.Set.{ModuliSet}
-use Rattle.lane_bank.specs.Lane.{LaneState, lane_at_start}
+use Rattle.channel_lane.specs.Lane.{LaneState, lane_at_start}
 use Rattle.lane_bank.specs.Bank.{no_lane, lane_at, lanes_at_start}
 
 -- where the elements before place i are mapped, that at i is still the old one

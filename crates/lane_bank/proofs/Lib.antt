@@ -1,3 +1,2 @@
 pub mod BankLemmas
-pub mod LaneLemmas
-pub mod ResidueSteps
+mod Rows

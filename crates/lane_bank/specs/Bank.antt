@@ -2,7 +2,7 @@
 use Rattle.std.specs.Prelude.{ℕ, ◌-◌, ℤ, List, [], map, length, slice_index_or}
 use Rattle.std.specs.List.{range_with_len}
 use Rattle.moduli_sets.specs.Set.{ModuliSet}
-use Rattle.lane_bank.specs.Lane.{LaneState, lane_at_start}
+use Rattle.channel_lane.specs.Lane.{LaneState, lane_at_start}
 
 -- no lane: what stands past the end of the lanes
 abbrev pub no_lane : LaneState

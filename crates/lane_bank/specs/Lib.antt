@@ -1,8 +1,5 @@
-pub use Rattle.number_theory.specs.Residue
-pub use Rattle.number_theory.specs.Coprime
 pub use Rattle.moduli_sets.specs.Set
 pub use Rattle.moduli_sets.specs.Moduli
 pub use Rattle.fault_book.specs.Book
-pub mod Lane
+pub use Rattle.channel_lane.specs.Lane
 pub mod Bank
-pub mod Kept

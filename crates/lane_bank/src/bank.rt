@@ -1,6 +1,6 @@
 ghost use Rattle.std.specs.Prelude.{◌≡◌, ℕ, ◌-◌, ◌<◌, ◌≤◌, ◌^◌, List, IfOk, drop, length, slice_set};
 ghost use Rattle.moduli_sets.specs.Moduli.{set_of};
-ghost use Rattle.lane_bank.specs.Lane.{LaneState, CanPerform, HasPlace, answer_of, held_in, lane_after};
+ghost use Rattle.channel_lane.specs.Lane.{LaneState, CanPerform, HasPlace, answer_of, held_in, lane_after};
 ghost use Rattle.lane_bank.specs.Bank.{lane_at, lanes_at_start};
 
 use channel_alu::{MicroOp, Place};

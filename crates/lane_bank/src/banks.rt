@@ -1,9 +1,10 @@
 ghost use Rattle.std.specs.Prelude.{◌≡◌, ℕ, ◌≤◌, [], ◌∷◌, IfOk, length};
-ghost use Rattle.lane_bank.specs.Lane.{LaneState};
+ghost use Rattle.channel_lane.specs.Lane.{LaneState};
 ghost use Rattle.lane_bank.specs.Bank.{lanes_at_start};
 
-use crate::{Bank, Lane};
+use crate::Bank;
 use channel_alu::{Channel, MicroOp, Place};
+use channel_lane::Lane;
 use fault_book::Faults;
 use moduli_sets::Moduli;
 use std::alloc::{AllocError, Global};

@@ -1,5 +1,5 @@
 ghost use Rattle.std.specs.Prelude.{◌≡◌, ◌-◌, ◌<◌, ◌^◌, All, map};
-ghost use Rattle.lane_bank.specs.Lane.{CanPerform, answer_of, lane_after};
+ghost use Rattle.channel_lane.specs.Lane.{CanPerform, answer_of, lane_after};
 
 use crate::Bank;
 use channel_alu::MicroOp;

@@ -1,6 +1,6 @@
 use Rattle.std.proofs.Common.{◌<◌, ◌^◌, ◌-◌, length, subst, sym, ap, ◌∙◌, arith}
 use Rattle.std.proofs.lemmas.List.Elements.{All-get_or}
-use Rattle.lane_bank.specs.Lane.{LaneState, CanPerform, answer_of, lane_after}
+use Rattle.channel_lane.specs.Lane.{LaneState, CanPerform, answer_of, lane_after}
 use Rattle.lane_bank.specs.Bank.{no_lane}
 use Rattle.lane_bank.proofs.BankLemmas.{get_or-mapped, mapped_more, column_more}
 use Rattle.lane_bank.proofs.column.perform_in_all.Goals as goal

@@ -1,5 +1,5 @@
 use Rattle.std.proofs.Common.{◌≡◌, ◌++◌, map, take, drop}
-use Rattle.lane_bank.specs.Lane.{answer_of, lane_after}
+use Rattle.channel_lane.specs.Lane.{answer_of, lane_after}
 use Rattle.lane_bank.proofs.column.perform_in_all.Given as goal
 
 -- the lanes so far have performed the operation, and the others are as they were

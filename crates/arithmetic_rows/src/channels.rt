@@ -1,0 +1,108 @@
+ghost use Rattle.std.specs.Prelude.{◌<◌, ◌≤◌};
+
+use channel_alu::{Channel, Ones, Plain, Plus, Power};
+
+/// The modulus of a channel, and then a + b, a - b, a * b, -a, a * b + c and (a - b) * c in it.
+fn operations<C: Channel>(a: u32, b: u32, c: u32) -> [u32; 7]
+    requires first { a < C.MODULUS }
+    requires second { b < C.MODULUS }
+    requires third { c < C.MODULUS }
+{
+    [
+        C::modulus(),
+        C::add(a, b),
+        C::sub(a, b),
+        C::mul(a, b),
+        C::neg(a),
+        C::mul_add(a, b, c),
+        C::unscale(a, b, c),
+    ]
+}
+
+/// The same by `%`.
+fn remainders(modulus: u32, a: u32, b: u32, c: u32) -> [u32; 7]
+    requires fits { modulus ≤ 65535 }
+    requires first { a < modulus }
+    requires second { b < modulus }
+    requires third { c < modulus }
+{
+    let difference = (a + modulus - b) % modulus;
+    [
+        modulus,
+        (a + b) % modulus,
+        difference,
+        a * b % modulus,
+        (modulus - a) % modulus,
+        (a * b + c) % modulus,
+        difference * c % modulus,
+    ]
+}
+
+/// Whether the operations of a channel are the remainders at all its residues.
+fn are_remainders<C: Channel>() -> bool {
+    let modulus = C::modulus();
+    for a in 0..modulus {
+        for b in 0..modulus {
+            for c in 0..modulus {
+                if operations::<C>(a, b, c) != remainders(modulus, a, b, c) {
+                    return false;
+                }
+            }
+        }
+    }
+    true
+}
+
+#[test]
+fn small_moduli(rt: HostRuntime) {
+    assert!(rt; are_remainders::<Plain<13>>());
+    assert!(rt; are_remainders::<Ones<4>>());
+    assert!(rt; are_remainders::<Power<4>>());
+    assert!(rt; are_remainders::<Plus<4>>());
+}
+
+// The expected numbers were computed in Python.
+
+#[test]
+fn operations_of_each_kind(rt: HostRuntime) {
+    for (found, expected) in [
+        (operations::<Plain<13>>(7, 9, 5), [13, 3, 11, 11, 6, 3, 3]),
+        (
+            operations::<Plain<65535>>(1, 65533, 65534),
+            [65535, 65534, 3, 65533, 65534, 65532, 65532],
+        ),
+        (operations::<Ones<4>>(7, 8, 14), [15, 0, 14, 11, 8, 10, 1]),
+        (
+            operations::<Ones<16>>(65534, 65533, 65532),
+            [65535, 65532, 1, 2, 1, 65534, 65532],
+        ),
+        (operations::<Power<4>>(7, 9, 13), [16, 0, 14, 15, 9, 12, 6]),
+        (
+            operations::<Power<15>>(32767, 32766, 32765),
+            [32768, 32765, 1, 2, 1, 32767, 32765],
+        ),
+        (operations::<Plus<4>>(16, 16, 16), [17, 15, 0, 1, 1, 0, 0]),
+        (
+            operations::<Plus<15>>(32768, 32767, 32766),
+            [32769, 32766, 1, 2, 1, 32768, 32766],
+        ),
+    ] {
+        assert!(rt; found == expected);
+    }
+}
+
+#[test]
+fn fallbacks(rt: HostRuntime) {
+    for (found, expected) in [
+        (operations::<Plain<1>>(0, 1, 1), [2, 1, 1, 0, 0, 1, 1]),
+        (operations::<Plain<65536>>(1, 1, 1), [2, 0, 0, 1, 1, 0, 0]),
+        (operations::<Ones<1>>(1, 2, 2), [3, 0, 2, 2, 2, 1, 1]),
+        (operations::<Ones<17>>(2, 1, 2), [3, 0, 1, 2, 1, 1, 2]),
+        (operations::<Power<0>>(0, 1, 1), [2, 1, 1, 0, 0, 1, 1]),
+        (operations::<Power<16>>(1, 1, 1), [2, 0, 0, 1, 1, 0, 0]),
+        (operations::<Plus<0>>(1, 2, 2), [3, 0, 2, 2, 2, 1, 1]),
+        (operations::<Plus<16>>(2, 1, 2), [3, 0, 1, 2, 1, 1, 2]),
+    ] {
+        assert!(rt; found == expected);
+    }
+}

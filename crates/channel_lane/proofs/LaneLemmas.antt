@@ -1,0 +1,140 @@
+-- Lanes through operations.
+use Rattle.std.proofs.Common.{◌≡◌, ℕ, ◌+◌, ◌%◌, ◌<◌, List, [], ◌∷◌, ◌++◌, length, Option, None, Some, refl, sym, ap, ◌∙◌, subst, arith}
+use Rattle.std.specs.Option.{option_map_or}
+use Rattle.std.proofs.lemmas.List.{length-set}
+use Rattle.std.proofs.Math.Nat.{mod-lt}
+use Rattle.number_theory.proofs.ResidueLemmas.{residue-below}
+use Rattle.channel_alu.specs.declared.operation.Place.{Place}
+use Rattle.channel_alu.specs.declared.operation.Place.TheVariants.{Reg, Scratch, Word}
+use Rattle.channel_alu.specs.declared.operation.MicroOp.{MicroOp}
+use Rattle.channel_alu.specs.declared.operation.MicroOp.TheVariants.{Put, Copy, Add, Sub, Mul, MulAdd, Neg, Unscale, Show}
+use Rattle.fault_book.specs.Book.{Book, fault_at}
+use Rattle.channel_lane.specs.Lane.{LaneState, HasPlace, CanPerform, modulus_of, with_held, destination, computed, value_of, answer_of, lane_after, lane_after_all}
+
+-- a lane with one answer more
+abbrev pub counted : LaneState → LaneState
+counted lane = record lane { answers = lane.answers + 1 }
+
+-- what stays where a residue is put into a place
+answers-with_held : (lane : LaneState) (to : Place) (x : ℕ) → (with_held lane to x).answers ≡ lane.answers
+answers-with_held lane (Reg n) x = refl
+answers-with_held lane (Scratch n) x = refl
+answers-with_held lane (Word n) x = refl
+
+set-with_held : (lane : LaneState) (to : Place) (x : ℕ) → (with_held lane to x).set ≡ lane.set
+set-with_held lane (Reg n) x = refl
+set-with_held lane (Scratch n) x = refl
+set-with_held lane (Word n) x = refl
+
+channel-with_held : (lane : LaneState) (to : Place) (x : ℕ) → (with_held lane to x).channel ≡ lane.channel
+channel-with_held lane (Reg n) x = refl
+channel-with_held lane (Scratch n) x = refl
+channel-with_held lane (Word n) x = refl
+
+words-with_held : (lane : LaneState) (to : Place) (x : ℕ) → length (with_held lane to x).words ≡ length lane.words
+words-with_held lane (Reg n) x = refl
+words-with_held lane (Scratch n) x = refl
+words-with_held lane (Word n) x = length-set lane.words n x
+
+set-written : (lane : LaneState) (x : ℕ) (to : Option Place) → (option_map_or (λ place. with_held lane place x) to lane).set ≡ lane.set
+set-written lane x None = refl
+set-written lane x (Some to) = set-with_held lane to x
+
+channel-written : (lane : LaneState) (x : ℕ) (to : Option Place) → (option_map_or (λ place. with_held lane place x) to lane).channel ≡ lane.channel
+channel-written lane x None = refl
+channel-written lane x (Some to) = channel-with_held lane to x
+
+words-written : (lane : LaneState) (x : ℕ) (to : Option Place) → length (option_map_or (λ place. with_held lane place x) to lane).words ≡ length lane.words
+words-written lane x None = refl
+words-written lane x (Some to) = words-with_held lane to x
+
+-- one operation, by where it writes
+pub lane_after-written : (book : Book) (op : MicroOp) (lane : LaneState) (to : Place) (answer : ℕ) → Some to ≡ destination op → answer ≡ answer_of book op lane → counted (with_held lane to answer) ≡ lane_after book op lane
+unfolding lane_after
+lane_after-written book op lane to answer place same =
+    ap (λ n. record (with_held lane to answer) { answers = n + 1 }) (answers-with_held lane to answer)
+    ∙ ap (λ x. record (with_held lane to x) { answers = lane.answers + 1 }) same
+    ∙ ap (λ p. record (option_map_or (λ t. with_held lane t (answer_of book op lane)) p lane) { answers = lane.answers + 1 }) place
+
+pub lane_after-shown : (book : Book) (op : MicroOp) (lane : LaneState) → None ≡ destination op → counted lane ≡ lane_after book op lane
+unfolding lane_after
+lane_after-shown book op lane place =
+    ap (λ p. record (option_map_or (λ t. with_held lane t (answer_of book op lane)) p lane) { answers = lane.answers + 1 }) place
+
+set-after : (book : Book) (op : MicroOp) (lane : LaneState) → (lane_after book op lane).set ≡ lane.set
+unfolding lane_after
+set-after book op lane = set-written lane (answer_of book op lane) (destination op)
+
+channel-after : (book : Book) (op : MicroOp) (lane : LaneState) → (lane_after book op lane).channel ≡ lane.channel
+unfolding lane_after
+channel-after book op lane = channel-written lane (answer_of book op lane) (destination op)
+
+words-after : (book : Book) (op : MicroOp) (lane : LaneState) → length (lane_after book op lane).words ≡ length lane.words
+unfolding lane_after
+words-after book op lane = words-written lane (answer_of book op lane) (destination op)
+
+answers-after : (book : Book) (op : MicroOp) (lane : LaneState) → (lane_after book op lane).answers ≡ lane.answers + 1
+unfolding lane_after
+answers-after book op lane = refl
+
+-- ---- lists of operations
+pub set-after_all : (book : Book) (ops : List MicroOp) (lane : LaneState) → (lane_after_all book ops lane).set ≡ lane.set
+set-after_all book [] lane = refl
+set-after_all book (op ∷ ops) lane = set-after_all book ops (lane_after book op lane) ∙ set-after book op lane
+
+pub channel-after_all : (book : Book) (ops : List MicroOp) (lane : LaneState) → (lane_after_all book ops lane).channel ≡ lane.channel
+channel-after_all book [] lane = refl
+channel-after_all book (op ∷ ops) lane = channel-after_all book ops (lane_after book op lane) ∙ channel-after book op lane
+
+pub words-after_all : (book : Book) (ops : List MicroOp) (lane : LaneState) → length (lane_after_all book ops lane).words ≡ length lane.words
+words-after_all book [] lane = refl
+words-after_all book (op ∷ ops) lane = words-after_all book ops (lane_after book op lane) ∙ words-after book op lane
+
+pub answers-after_all : (book : Book) (ops : List MicroOp) (lane : LaneState) → (lane_after_all book ops lane).answers ≡ lane.answers + length ops
+answers-after_all book [] lane = omega arith
+answers-after_all book (op ∷ ops) lane =
+    omega (arith, answers-after_all book ops (lane_after book op lane), answers-after book op lane)
+
+pub after_all-parts : (book : Book) (ops more : List MicroOp) (lane : LaneState) → lane_after_all book (ops ++ more) lane ≡ lane_after_all book more (lane_after_all book ops lane)
+after_all-parts book [] more lane = refl
+after_all-parts book (op ∷ ops) more lane = after_all-parts book ops more (lane_after book op lane)
+
+-- ---- answers
+option_below : (m value : ℕ) (fault : Option ℕ) → 0 < m → value < m → option_map_or (λ f. f % m) fault value < m
+option_below m value None positive below = below
+option_below m value (Some fault) positive below = mod-lt fault positive
+
+pub answer-below : (book : Book) (op : MicroOp) (lane : LaneState) → 0 < modulus_of lane → answer_of book op lane < modulus_of lane
+unfolding answer_of
+answer-below book op lane positive =
+    option_below (modulus_of lane) (value_of lane op) (fault_at book lane.channel lane.answers) positive (residue-below (computed lane op) (modulus_of lane) positive)
+
+pub answer_of-fault : (book : Book) (op : MicroOp) (lane : LaneState) (fault : ℕ) → Some fault ≡ fault_at book lane.channel lane.answers → fault % modulus_of lane ≡ answer_of book op lane
+unfolding answer_of
+answer_of-fault book op lane fault found = ap (λ f. option_map_or (λ x. x % modulus_of lane) f (value_of lane op)) found
+
+pub answer_of-value : (book : Book) (op : MicroOp) (lane : LaneState) → None ≡ fault_at book lane.channel lane.answers → value_of lane op ≡ answer_of book op lane
+unfolding answer_of
+answer_of-value book op lane none = ap (λ f. option_map_or (λ x. x % modulus_of lane) f (value_of lane op)) none
+
+-- ---- what a lane can perform
+HasPlace-same : (before after : LaneState) (place : Place) → length after.words ≡ length before.words → HasPlace before place → HasPlace after place
+HasPlace-same before after (Reg n) same h = h
+HasPlace-same before after (Scratch n) same h = h
+HasPlace-same before after (Word n) same h = omega arith
+
+CanPerform-same : (before after : LaneState) (op : MicroOp) → length after.words ≡ length before.words → after.set ≡ before.set → CanPerform before op → CanPerform after op
+CanPerform-same before after (Put to value) words set h = HasPlace-same before after to words h
+CanPerform-same before after (Copy to from) words set h = (HasPlace-same before after to words h.0, HasPlace-same before after from words h.1)
+CanPerform-same before after (Add to left right) words set h = (HasPlace-same before after to words h.0, HasPlace-same before after left words h.1, HasPlace-same before after right words h.2)
+CanPerform-same before after (Sub to left right) words set h = (HasPlace-same before after to words h.0, HasPlace-same before after left words h.1, HasPlace-same before after right words h.2)
+CanPerform-same before after (Mul to left right) words set h = (HasPlace-same before after to words h.0, HasPlace-same before after left words h.1, HasPlace-same before after right words h.2)
+CanPerform-same before after (MulAdd to left right plus) words set h = (HasPlace-same before after to words h.0, HasPlace-same before after left words h.1, HasPlace-same before after right words h.2, HasPlace-same before after plus words h.3)
+CanPerform-same before after (Neg to from) words set h = (HasPlace-same before after to words h.0, HasPlace-same before after from words h.1)
+CanPerform-same before after (Unscale to from channel take give) words set h =
+    (HasPlace-same before after to words h.0, HasPlace-same before after from words h.1, subst (λ s. channel < length s.moduli) (sym set) h.2)
+CanPerform-same before after (Show from) words set h = HasPlace-same before after from words h
+
+pub CanPerform-after_all : (book : Book) (ops : List MicroOp) (lane : LaneState) (op : MicroOp) → CanPerform lane op → CanPerform (lane_after_all book ops lane) op
+CanPerform-after_all book ops lane op h =
+    CanPerform-same lane (lane_after_all book ops lane) op (words-after_all book ops lane) (set-after_all book ops lane) h

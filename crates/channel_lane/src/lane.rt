@@ -1,0 +1,224 @@
+ghost use Rattle.std.specs.Prelude.{◌≡◌, ◌+◌, ◌-◌, ◌<◌, ◌^◌, IfOk, length, map, slice_index};
+ghost use Rattle.moduli_sets.specs.Moduli.{set_of};
+ghost use Rattle.channel_lane.specs.Lane.{CanPerform, HasPlace, answer_of, destination, held_in, lane_after, lane_at_start, modulus_of, unscaled, value_of, with_held};
+ghost use Rattle.number_theory.specs.Residue.{residue};
+
+use channel_alu::{Channel, MicroOp, Place};
+use fault_book::Faults;
+use moduli_sets::{Moduli, residue_of};
+use std::alloc::{AllocError, Global};
+use std::marker::{Model, PhantomData};
+
+/// What one channel holds: 16 registers, 8 scratch places and the data words, each a residue below the modulus
+/// of the channel type C, and how many answers it has given.
+pub struct Lane<C: Channel> {
+    set: Moduli,
+    channel: usize,
+    registers: [u32; 16],
+    scratch: [u32; 8],
+    words: Vec<u32>,
+    answers: u64,
+    kind: PhantomData<C>,
+}
+
+impl<C: Channel> Drop for Lane<C> {
+    fn drop(self) {
+        let Lane {
+            set: _,
+            channel: _,
+            registers: _,
+            scratch: _,
+            words: _,
+            answers: _,
+            kind: _,
+        } = self;
+    }
+}
+
+impl<C: Channel> Model for Lane<C> {
+    ghost use Rattle.std.specs.Prelude.{◌≡◌, ◌<◌, All, length, slice_index};
+    ghost use Rattle.moduli_sets.specs.Moduli.{set_of};
+    ghost use Rattle.channel_lane.specs.Lane.{LaneState};
+    ghost use Rattle.channel_lane.specs.Kept.{IsKept};
+
+    ghost Value = { LaneState };
+
+    ghost view = { λ lane. record {
+      set = set_of lane.set;
+      channel = lane.channel;
+      registers = lane.registers;
+      scratch = lane.scratch;
+      words = lane.words.items;
+      answers = lane.answers;
+    } };
+
+    ghost invariant = { λ lane. IsKept C.MODULUS (set_of lane.set) lane.channel lane.registers lane.scratch lane.words.items };
+}
+
+impl<C: Channel> Lane<C> {
+    /// The lane of a channel of the set: 0 in registers and scratch places, the residues of `start` in the words.
+    pub fn make(
+        alloc: Global,
+        set: &Moduli,
+        channel: usize,
+        start: &[i128],
+    ) -> Result<Lane<C>, AllocError>
+        requires channel { channel < length (set_of set.now).moduli }
+        requires modulus { slice_index (set_of set.now).moduli channel ≡ C.MODULUS }
+        ensures { IfOk result (λ lane. lane ≡ lane_at_start (set_of set.now) start.now channel) }
+    {
+        Ok(Lane {
+            set: *set,
+            channel,
+            registers: [0; 16],
+            scratch: [0; 8],
+            words: residues_of::<C>(alloc, start)?,
+            answers: 0,
+            kind: PhantomData,
+        })
+    }
+
+    /// Performs an operation: the answer is written to its destination, counted, and returned.
+    pub fn perform(&mut self, op: &MicroOp, faults: &Faults) -> u32
+        requires can { CanPerform self.old op.now }
+        requires count { self.old.answers < 2 ^ 64 - 1 }
+        ensures answer { result ≡ answer_of faults.now op.now self.old }
+        ensures lane { self.new ≡ lane_after faults.now op.now self.old }
+    {
+        let answer = self.answer(op, faults);
+        if let Some(to) = destination(op) {
+            self.write(to, answer);
+        }
+        self.answers += 1;
+        answer
+    }
+
+    /// The residue in a place.
+    pub fn held(&self, place: Place) -> u32
+        requires { HasPlace self.now place }
+        ensures value { result ≡ held_in self.now place }
+        ensures below { result < C.MODULUS }
+    {
+        match place {
+            Place::Reg(n) => self.registers[usize::from(n)],
+            Place::Scratch(n) => self.scratch[usize::from(n)],
+            Place::Word(n) => self.words[n as usize],
+        }
+    }
+
+    /// How many answers the lane has given.
+    pub fn answered(&self) -> u64
+        ensures { result ≡ self.now.answers }
+    {
+        self.answers
+    }
+
+    /// The modulus of the channel, which is that of its type.
+    fn modulus(&self) -> u32
+        ensures of_set { result ≡ modulus_of self.now }
+        ensures of_type { result ≡ C.MODULUS }
+        ensures positive { 0 < result }
+    {
+        let _ = &self.set;
+        C::modulus()
+    }
+
+    /// The answer to an operation: its value, or the fault that the book has in its place.
+    fn answer(&self, op: &MicroOp, faults: &Faults) -> u32
+        requires { CanPerform self.now op.now }
+        ensures value { result ≡ answer_of faults.now op.now self.now }
+        ensures below { result < C.MODULUS }
+    {
+        match faults.answer(self.channel, self.answers) {
+            Some(fault) => fault % self.modulus(),
+            None => self.value(op),
+        }
+    }
+
+    /// The value of an operation in this channel.
+    fn value(&self, op: &MicroOp) -> u32
+        requires { CanPerform self.now op.now }
+        ensures value { result ≡ value_of self.now op.now }
+        ensures below { result < C.MODULUS }
+    {
+        let modulus = self.modulus();
+        match *op {
+            MicroOp::Put { value, .. } => residue_of(value, modulus),
+            MicroOp::Copy { from, .. } => self.held(from),
+            MicroOp::Add { left, right, .. } => C::add(self.held(left), self.held(right)),
+            MicroOp::Sub { left, right, .. } => C::sub(self.held(left), self.held(right)),
+            MicroOp::Mul { left, right, .. } => C::mul(self.held(left), self.held(right)),
+            MicroOp::MulAdd {
+                left,
+                right,
+                plus,
+                ..
+            } => C::mul_add(self.held(left), self.held(right), self.held(plus)),
+            MicroOp::Neg { from, .. } => C::neg(self.held(from)),
+            MicroOp::Unscale {
+                from,
+                channel,
+                take,
+                give,
+                ..
+            } => self.unscaled(self.held(from), usize::from(channel), take, give),
+            MicroOp::Show { from } => self.held(from),
+        }
+    }
+
+    /// What an Unscale by channel s makes of a residue here: the rest behind `take`, divided by the modulus of
+    /// s; in s itself `give`.
+    fn unscaled(&self, x: u32, s: usize, take: u32, give: u32) -> u32
+        requires residue { x < C.MODULUS }
+        requires channel { s < length self.now.set.moduli }
+        ensures value { result ≡ residue (unscaled self.now x s take give) (modulus_of self.now) }
+        ensures below { result < C.MODULUS }
+    {
+        if s == self.channel {
+            give % self.modulus()
+        } else {
+            C::unscale(x, take % self.modulus(), self.set.inverse(s, self.channel))
+        }
+    }
+
+    /// Puts a residue into a place.
+    fn write(&mut self, to: Place, x: u32)
+        requires place { HasPlace self.old to }
+        requires below { x < C.MODULUS }
+        ensures { self.new ≡ with_held self.old to x }
+    {
+        match to {
+            Place::Reg(n) => self.registers[usize::from(n)] = x,
+            Place::Scratch(n) => self.scratch[usize::from(n)] = x,
+            Place::Word(n) => self.words[n as usize] = x,
+        }
+    }
+}
+
+/// The residues of integers, one for each.
+fn residues_of<C: Channel>(alloc: Global, integers: &[i128]) -> Result<Vec<u32>, AllocError>
+    ensures { IfOk result (λ residues. residues.items ≡ map (λ x. residue x C.MODULUS) integers.now) }
+{
+    let mut residues = Vec::with_capacity(alloc, integers.len())?;
+    for x in integers {
+        residues.push(residue_of(*x, C::modulus()))?;
+    }
+    Ok(residues)
+}
+
+/// Where an operation writes its answer. A Show writes nothing.
+fn destination(op: &MicroOp) -> Option<Place>
+    ensures { result ≡ destination op.now }
+{
+    match *op {
+        MicroOp::Put { to, .. }
+        | MicroOp::Copy { to, .. }
+        | MicroOp::Add { to, .. }
+        | MicroOp::Sub { to, .. }
+        | MicroOp::Mul { to, .. }
+        | MicroOp::MulAdd { to, .. }
+        | MicroOp::Neg { to, .. }
+        | MicroOp::Unscale { to, .. } => Some(to),
+        MicroOp::Show { .. } => None,
+    }
+}

@@ -1,7 +1,0 @@
-use Rattle.std.proofs.Common.{◌≡◌, map, take}
-use Rattle.number_theory.specs.Residue.{residue}
-use Rattle.lane_bank.proofs.lane.Lane.make.Given as goal
-
--- the residues of the integers so far
-abbrev pub invariant-loop-x : goal.invariant-loop-x
-invariant-loop-x g l = l.words.items ≡ map (λ x. residue x g.C.Channel.MODULUS) (take l.x-index l.start)
