@@ -1,7 +1,1 @@
-pub mod FileNames
-pub mod IntegerLemmas
-pub mod OperandLemmas
-pub mod OptionLemmas
-pub mod ResidueLemmas
-pub mod ShortNumbers
-pub mod WordsAt
+mod Rows

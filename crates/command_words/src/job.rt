@@ -1,14 +1,8 @@
 use moduli_sets::{SetName, Vector};
-
-/// The part of word number `word`, counted from 0, from byte `skip` on: it names a file.
-#[derive(Clone, Copy, Debug, PartialEq, Eq)]
-pub struct FileWord {
-    pub word: usize,
-    pub skip: usize,
-}
+use word_options::FileWord;
 
 /// What the words ask for.
-#[derive(Clone, Debug, PartialEq, Eq, Drop)]
+#[derive(Debug, PartialEq, Eq, Drop)]
 pub enum Job {
     /// Run a thin source on `pocket`.
     Run {

@@ -13,7 +13,8 @@ use Rattle.thin_source.specs.ThinTree.{Program}
 use Rattle.thin_source.specs.ThinMeaning.{IsThin, prints_of}
 use Rattle.command_words.specs.declared.job.Job.{Job}
 use Rattle.command_words.specs.declared.job.Job.TheVariants.{Run, Decode, Encode, Mean, Set}
-use Rattle.command_words.specs.Words.{file_name, job_of_words}
+use Rattle.command_words.specs.Words.{job_of_words}
+use Rattle.word_options.specs.Operands.{file_name}
 use Rattle.moduli_sets.specs.Name.{set_of_name}
 use Rattle.redundant_decoder.specs.declared.decoder.Verdict.{Verdict}
 use Rattle.redundant_decoder.specs.Verdict.{IsVerdict}

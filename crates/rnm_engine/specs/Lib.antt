@@ -8,6 +8,7 @@ pub use Rattle.number_text.specs.Lines
 pub use Rattle.redundant_decoder.specs.Nearest
 pub use Rattle.redundant_decoder.specs.Verdict
 pub use Rattle.command_words.specs.Words
+pub use Rattle.word_options.specs.Operands
 pub use Rattle.thin_source.specs.ThinTree
 pub use Rattle.thin_source.specs.ThinMeaning
 pub mod Sets

@@ -1,7 +1,8 @@
 ghost use Rattle.std.specs.Prelude.{◌≡◌, ◌≢◌, ℕ, ◌<◌, ◌⊎◌, List, [], map, length, IfSome, None, Some};
 ghost use Rattle.std.specs.Option.{option_map};
 ghost use Rattle.std.specs.String.{string_bytes};
-ghost use Rattle.command_words.specs.Words.{file_name, job_of_words};
+ghost use Rattle.command_words.specs.Words.{job_of_words};
+ghost use Rattle.word_options.specs.Operands.{file_name};
 ghost use Rattle.outside.specs.Faults.{Rose};
 ghost use Rattle.outside.specs.Shelf.{Held, TellsMissing};
 ghost use Rattle.outside.specs.Sink.{WroteAll, StaysTimely};

@@ -1,4 +1,4 @@
-use Rattle.command_words.proofs.FileNames.{boundary_of_whole_word}
+use Rattle.word_options.proofs.FileNames.{boundary_of_whole_word}
 use Rattle.rnm_engine.proofs.answer.name_of_any.Goals as goal
 
 pub name_of-requires-clause-skip : goal.name_of-requires-clause-skip

@@ -3,10 +3,10 @@ use Rattle.std.specs.Int.{w128}
 use Rattle.std.specs.Int.RustNames.{FitsSigned}
 use Rattle.std.proofs.lemmas.Int.{to_z-of_z}
 use Rattle.command_words.specs.declared.job.Job.TheVariants.{Run, Decode, Encode, Mean, Set}
-use Rattle.command_words.specs.Words.{file_name}
+use Rattle.word_options.specs.Operands.{file_name}
 use Rattle.std.specs.Option.{option_map}
 use Rattle.outside.specs.Shelf.{Held, TellsMissing}
-use Rattle.command_words.proofs.FileNames.{boundary_of_whole_word}
+use Rattle.word_options.proofs.FileNames.{boundary_of_whole_word}
 use Rattle.moduli_sets.specs.Name.{set_of_name}
 use Rattle.moduli_sets.specs.Set.{IsInRange, ModuliSet}
 use Rattle.rnm_engine.specs.declared.status.Status.TheVariants.{Ok, Usage}

@@ -1,0 +1,96 @@
+-- Worked rows: words, and the jobs that they ask for.
+use Rattle.std.specs.Prelude.{◌≡◌, refl, pos, negsuc, [], ◌∷◌, Some, None, codes, map, replicate}
+use Rattle.moduli_sets.specs.declared.set_name.SetName.TheVariants.{Pocket, Desk, Hall}
+use Rattle.word_options.specs.Operands.{whole_word}
+use Rattle.command_words.specs.declared.job.Job.TheVariants.{Run, Decode, Encode, Mean, Set}
+use Rattle.command_words.specs.Words.{job_of_words}
+
+-- ---- jobs
+run_row : job_of_words (codes "run" ∷ codes "a.src" ∷ codes "-" ∷ codes "--set=pocket" ∷ []) ≡ Some (Run (whole_word 1))
+run_row = refl
+
+set_row : job_of_words (codes "set" ∷ codes "desk" ∷ []) ≡ Some (Set Desk)
+set_row = refl
+
+-- the least integer in range, and a zero with a sign
+encode_rows : map job_of_words ((codes "encode" ∷ codes "pocket" ∷ codes "-97" ∷ []) ∷ (codes "encode" ∷ codes "pocket" ∷ codes "-0" ∷ []) ∷ []) ≡ Some (Encode Pocket (negsuc 96)) ∷ Some (Encode Pocket (pos 0)) ∷ []
+encode_rows = refl
+
+-- ten digits for a residue
+decode_rows : map job_of_words ((codes "decode" ∷ codes "pocket" ∷ codes "3" ∷ codes "12" ∷ codes "10" ∷ codes "8" ∷ codes "4" ∷ []) ∷ (codes "decode" ∷ codes "pocket" ∷ codes "3" ∷ codes "12" ∷ codes "10" ∷ codes "8" ∷ codes "0000000004" ∷ []) ∷ []) ≡ replicate 2 (Some (Decode Pocket (3 ∷ 12 ∷ 10 ∷ 8 ∷ 4 ∷ [])))
+decode_rows = refl
+
+mean_row : job_of_words (codes "mean" ∷ codes "a.src" ∷ codes "-" ∷ []) ≡ Some (Mean (whole_word 1) None Desk 1000000)
+mean_row = refl
+
+-- options stand before, between and behind operands
+options_row : job_of_words (codes "mean" ∷ codes "--steps=7" ∷ codes "a.src" ∷ codes "--set=hall" ∷ codes "b" ∷ []) ≡ Some (Mean (whole_word 2) (Some (whole_word 4)) Hall 7)
+options_row = refl
+
+-- the greatest limit, and the least with nine zeros in front
+limit_rows : map job_of_words ((codes "mean" ∷ codes "a" ∷ codes "-" ∷ codes "--steps=1000000000" ∷ []) ∷ (codes "mean" ∷ codes "a" ∷ codes "-" ∷ codes "--steps=0000000001" ∷ []) ∷ []) ≡ Some (Mean (whole_word 1) None Desk 1000000000) ∷ Some (Mean (whole_word 1) None Desk 1) ∷ []
+limit_rows = refl
+
+-- ---- usage faults
+no_words : map job_of_words ([] ∷ (codes "help" ∷ []) ∷ []) ≡ None ∷ None ∷ []
+no_words = refl
+
+-- words in another order, and what names no file
+run_faults : map job_of_words (
+    (codes "run" ∷ codes "a.src" ∷ codes "-" ∷ [])
+    ∷ (codes "run" ∷ codes "-" ∷ codes "-" ∷ codes "--set=pocket" ∷ [])
+    ∷ (codes "run" ∷ codes "--a" ∷ codes "-" ∷ codes "--set=pocket" ∷ [])
+    ∷ (codes "run" ∷ [] ∷ codes "-" ∷ codes "--set=pocket" ∷ [])
+    ∷ (codes "run" ∷ codes "a.src" ∷ codes "--set=pocket" ∷ codes "-" ∷ [])
+    ∷ []) ≡ replicate 5 None
+run_faults = refl
+
+set_faults : map job_of_words (
+    (codes "set" ∷ [])
+    ∷ (codes "set" ∷ codes "des" ∷ [])
+    ∷ (codes "set" ∷ codes "desk" ∷ codes "desk" ∷ [])
+    ∷ []) ≡ replicate 3 None
+set_faults = refl
+
+-- one past the range on both sides; two minuses; a minus and nothing, nothing, and forty digits
+encode_faults : map job_of_words (
+    (codes "encode" ∷ codes "pocket" ∷ [])
+    ∷ (codes "encode" ∷ codes "pocket" ∷ codes "98" ∷ [])
+    ∷ (codes "encode" ∷ codes "pocket" ∷ codes "-98" ∷ [])
+    ∷ (codes "encode" ∷ codes "pocket" ∷ codes "--5" ∷ [])
+    ∷ (codes "encode" ∷ codes "pocket" ∷ codes "-" ∷ [])
+    ∷ (codes "encode" ∷ codes "pocket" ∷ [] ∷ [])
+    ∷ (codes "encode" ∷ codes "desk" ∷ codes "451727098180" ∷ [])
+    ∷ (codes "encode" ∷ codes "pocket" ∷ codes "0000000000000000000000000000000000000000" ∷ [])
+    ∷ []) ≡ replicate 8 None
+encode_faults = refl
+
+-- a residue too few and too many, one that is its modulus, eleven digits, a minus, nothing
+decode_faults : map job_of_words (
+    (codes "decode" ∷ [])
+    ∷ (codes "decode" ∷ codes "pocket" ∷ codes "3" ∷ codes "12" ∷ codes "10" ∷ codes "8" ∷ [])
+    ∷ (codes "decode" ∷ codes "pocket" ∷ codes "3" ∷ codes "12" ∷ codes "10" ∷ codes "8" ∷ codes "4" ∷ codes "0" ∷ [])
+    ∷ (codes "decode" ∷ codes "pocket" ∷ codes "13" ∷ codes "12" ∷ codes "10" ∷ codes "8" ∷ codes "4" ∷ [])
+    ∷ (codes "decode" ∷ codes "pocket" ∷ codes "3" ∷ codes "12" ∷ codes "10" ∷ codes "8" ∷ codes "00000000004" ∷ [])
+    ∷ (codes "decode" ∷ codes "pocket" ∷ codes "-3" ∷ codes "12" ∷ codes "10" ∷ codes "8" ∷ codes "4" ∷ [])
+    ∷ (codes "decode" ∷ codes "pocket" ∷ [] ∷ codes "12" ∷ codes "10" ∷ codes "8" ∷ codes "4" ∷ [])
+    ∷ []) ≡ replicate 7 None
+decode_faults = refl
+
+-- operands too few and too many, `-` for a source, an option twice, a limit of 0 and one past the greatest, an option of another command
+mean_faults : map job_of_words (
+    (codes "mean" ∷ [])
+    ∷ (codes "mean" ∷ codes "a" ∷ [])
+    ∷ (codes "mean" ∷ codes "a" ∷ codes "b" ∷ codes "c" ∷ [])
+    ∷ (codes "mean" ∷ codes "-" ∷ codes "-" ∷ [])
+    ∷ (codes "mean" ∷ codes "a" ∷ [] ∷ [])
+    ∷ (codes "mean" ∷ codes "a" ∷ codes "-" ∷ codes "--set=desk" ∷ codes "--set=desk" ∷ [])
+    ∷ (codes "mean" ∷ codes "a" ∷ codes "-" ∷ codes "--set=tiny" ∷ [])
+    ∷ (codes "mean" ∷ codes "a" ∷ codes "-" ∷ codes "--steps=" ∷ [])
+    ∷ (codes "mean" ∷ codes "a" ∷ codes "-" ∷ codes "--steps=0" ∷ [])
+    ∷ (codes "mean" ∷ codes "a" ∷ codes "-" ∷ codes "--steps=1000000001" ∷ [])
+    ∷ (codes "mean" ∷ codes "a" ∷ codes "-" ∷ codes "--steps=00000000001" ∷ [])
+    ∷ (codes "mean" ∷ codes "a" ∷ codes "-" ∷ codes "--journal" ∷ [])
+    ∷ (codes "mean" ∷ codes "a" ∷ codes "-" ∷ codes "--" ∷ [])
+    ∷ []) ≡ replicate 13 None
+mean_faults = refl

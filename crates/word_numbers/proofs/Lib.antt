@@ -1,0 +1,3 @@
+pub mod IntegerLemmas
+pub mod ResidueLemmas
+pub mod ShortNumbers

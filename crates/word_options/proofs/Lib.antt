@@ -1,0 +1,5 @@
+pub mod FileNames
+pub mod OperandLemmas
+pub mod OptionLemmas
+mod Rows
+pub mod WordsAt
