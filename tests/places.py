@@ -3,7 +3,7 @@
 
 A small recogniser that shares nothing with the parser: Earley's, over kinds of tokens. A list of tokens is the front
 of a program exactly where the sets of items are not empty up to its end. The limits of nesting are counted apart from
-it, by what opens and closes. It writes the table of crates/source_parser/src/tests/places.rt:
+it, by what opens and closes. It writes the table of crates/language_rows/src/places.rt:
 
     tests/places.py --write     writes the table anew
     tests/places.py             fails where the table isn't what this program says
@@ -12,7 +12,7 @@ import re
 import sys
 from pathlib import Path
 
-TABLE = Path(__file__).resolve().parent.parent / "crates/source_parser/src/tests/places.rt"
+TABLE = Path(__file__).resolve().parent.parent / "crates/language_rows/src/places.rt"
 
 WORDS = "var array proc do end print read if then else for to while limit div mod".split()
 TOKEN = re.compile(r"\s*([A-Za-z][A-Za-z0-9_]*|[0-9]+|:=|\.\.|<=|<>|>=|[:;,()\[\]+\-*<>=])")

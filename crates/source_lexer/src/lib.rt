@@ -7,8 +7,6 @@
 mod gap;
 mod lexer;
 mod symbol;
-#[cfg(test)]
-mod tests;
 mod token;
 mod word;
 

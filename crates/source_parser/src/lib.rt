@@ -11,8 +11,6 @@ mod fault;
 mod program;
 mod reader;
 mod statement;
-#[cfg(test)]
-mod tests;
 
 pub use fault::ParseFault;
 pub use program::parse;

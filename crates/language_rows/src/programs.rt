@@ -1,8 +1,6 @@
-mod places;
-
-use crate::{ParseFault, parse};
-use places::PLACES;
+use crate::places::PLACES;
 use source_lexer::tokens;
+use source_parser::{ParseFault, parse};
 use source_tree::{Expr, Operator, Program, Statement};
 use std::alloc::Global;
 use std::test::Fail;

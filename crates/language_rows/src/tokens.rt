@@ -1,6 +1,6 @@
 ghost use Rattle.std.specs.Prelude.{◌≤◌, length};
 
-use super::{LexFault, TokenKind, tokens};
+use source_lexer::{LexFault, TokenKind, tokens};
 use std::alloc::Global;
 use std::test::Fail;
 

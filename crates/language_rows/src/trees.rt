@@ -1,4 +1,4 @@
-use crate::{Expr, Operator, Program, Statement};
+use source_tree::{Expr, Operator, Program, Statement};
 use sqlite_items::{Boxed, Items};
 use std::test::Fail;
 

@@ -1,0 +1,13 @@
+//! Worked rows of the source language: tests of `source_lexer`, `source_tree` and `source_parser`.
+//!
+//! A crate with tests is proved twice, so those of the language stand here, above it. Nothing comes in or goes out.
+#![tactic(auto)]
+
+#[cfg(test)]
+mod places;
+#[cfg(test)]
+mod programs;
+#[cfg(test)]
+mod tokens;
+#[cfg(test)]
+mod trees;
