@@ -152,6 +152,12 @@ name_front same none =
       only = λ other rest reading ends. name_view reading.reads same none;
     }
 
+-- a factor whose name is read
+pub behind_name : {now rest : List Symbol} {allowed : ℕ} {x : Name} {found : Expr}
+    → IsFront (ReadsWithin factor allowed) (Ends factor) (word x ∷ now) found rest
+    → IsFront (λ (symbols : List Symbol). ReadsWithin factor allowed (word x ∷ symbols)) (Ends factor) now found rest
+behind_name front = record { reads = front.reads; only = front.only }
+
 -- ---- elements
 pub element_front : {start now behind after rest : List Symbol} {allowed fewer : ℕ} {x : Name} {index : Expr} {line last : ℕ}
     → start ≡ word x ∷ now → now ≡ mark kind.LeftBracket line ∷ behind → allowed ≡ suc fewer

@@ -1,19 +1,14 @@
 -- Things of the grammar that stand one behind the other: fronts of the whole from fronts of the parts.
 use Rattle.std.proofs.Common.{◌≡◌, ℕ, ◌<◌, List, ◌∷◌, length, sym, ap, ◌∙◌}
-use Rattle.std.specs.Prelude.{true, false, Option, Some, None, is_some, Ok, Err}
+use Rattle.std.specs.Prelude.{true, false, Option, Some, None, is_some, Result, Ok, Err}
 use Rattle.source_lexer.specs.declared.token.TokenKind.{TokenKind}
 use Rattle.source_tree.specs.declared.name.Name.{Name}
 use Rattle.source_parser.specs.declared.fault.Fault.{Fault}
 use Rattle.source_parser.specs.declared.fault.Fault.TheVariants.{Stops, Deep, NoMemory}
 use Rattle.source_parser.specs.Symbols.{Symbol, word, mark}
-use Rattle.source_parser.specs.Fronts.{NotMark, TakesMark, TakesAllowed, TakesWord, ConsumesNext, IsFront, IsNoFront, Tells, Anything, TellsNext}
+use Rattle.source_parser.specs.Fronts.{Closed, Both, NotMark, TakesMark, TakesAllowed, TakesWord, ConsumesNext, IsFront, IsNoFront, Tells, Anything, TellsNext}
 
 -- ---- a thing and a mark behind it
-pub record Closed {A : Type 0} (Reads : List Symbol → A → List Symbol → Type 0) (kind : TokenKind) (symbols : List Symbol) (found : A)
-    (rest : List Symbol) : Type 0 where
-  pub line : ℕ
-  pub reads : Reads symbols found (mark kind line ∷ rest)
-
 -- what may follow the thing begins with the mark
 abbrev pub Ended : (List Symbol → Type 0) → TokenKind → Type 0
 Ended Follows kind = (line : ℕ) (rest : List Symbol) → Follows (mark kind line ∷ rest)
@@ -34,12 +29,6 @@ module _ {A : Type 0} (Reads : List Symbol → A → List Symbol → Type 0) (Fo
   closed_missing now found front missing = λ other rest r _. missing r.line rest (sym (front.only other _ r.reads (ended r.line rest)).1)
 
 -- ---- a thing behind a thing
-pub record Both {A B : Type 0} (First : List Symbol → A → List Symbol → Type 0) (Second : List Symbol → B → List Symbol → Type 0) (symbols : List Symbol)
-    (found : A × B) (rest : List Symbol) : Type 0 where
-  pub behind : List Symbol
-  pub first : First symbols found.0 behind
-  pub second : Second behind found.1 rest
-
 same_pair : {A B : Type 0} (p : A × B) (a : A) (b : B) → p.0 ≡ a → p.1 ≡ b → p ≡ (a, b)
 same_pair (x, y) a b h k = ap (λ (v : _). (v, y)) h ∙ ap (λ (v : _). (a, v)) k
 
@@ -100,6 +89,13 @@ module _ {A : Type 0} (Whole : List Symbol → A → List Symbol → Type 0) (Be
 
   pub begun_none : IsNoFront (λ (rest : List Symbol). Whole (head ∷ rest)) Behind old → IsNoFront Whole Behind symbols
   begun_none none = λ other rest r h. none other rest (rw begins at r) h
+
+  pub begun_tells : (result : Result A Fault) (new : List Symbol) → Tells (λ (rest : List Symbol). Whole (head ∷ rest)) Behind old result new
+      → Tells Whole Behind symbols result new
+  begun_tells (Ok found) new front = begun_front new found front
+  begun_tells (Err Stops) new none = begun_none none
+  begun_tells (Err Deep) new none = begun_none none
+  begun_tells (Err NoMemory) new none = tt
 
 -- ---- faults
 -- A fault of a part is one of the whole, where there is no whole with no part.

@@ -15,8 +15,8 @@ use Rattle.source_parser.specs.Symbols.{Symbol, word, mark, front_line}
 use Rattle.source_parser.specs.Grammar as grammar
 use Rattle.source_parser.specs.Grammar.{Level, sum, ReadsExpr, ReadsOutermost, Compares, less, less_equal, greater, greater_equal, equal, not_equal}
 use Rattle.source_parser.specs.Grammar.{ReadsCondition, ReadsPlace, ReadsListed, ReadsStatement}
-use Rattle.source_parser.specs.Fronts.{Anything, Ends, ExpectsComparison, NotMark, IsFront, IsNoFront}
-use Rattle.source_parser.proofs.Sequences.{Closed, Both, Ended, Leads, Views, closed_front, closed_none, closed_missing, both_front, both_none, both_stops}
+use Rattle.source_parser.specs.Fronts.{Closed, Both, Anything, Ends, ExpectsComparison, NotMark, IsFront, IsNoFront}
+use Rattle.source_parser.proofs.Sequences.{Ended, Leads, Views, closed_front, closed_none, closed_missing, both_front, both_none, both_stops}
 use Rattle.source_parser.proofs.Sequences.{made_front, made_none}
 
 -- ---- symbols
@@ -216,7 +216,7 @@ module _ (width : ℕ) (x : Name) (old : List Symbol) where
 becomes_ended : Ended (NotMark kind.LeftBracket) kind.Becomes
 becomes_ended line rest = λ l r e. absurd cc
 
-semicolon_ended : Ended (Ends sum) kind.Semicolon
+pub semicolon_ended : Ended (Ends sum) kind.Semicolon
 semicolon_ended line rest = refl
 
 abbrev pub SemicolonPlace : ℕ → List Symbol → Place → List Symbol → Type 0
@@ -258,19 +258,15 @@ module _ (width depth line : ℕ) (old : List Symbol) where
   views_print : Views (SemicolonExpr width) (PrintBehind width depth line) (λ value. Print value line) old old
   views_print = λ found rest r. print_view r refl
 
-  pub print_front : (now new : List Symbol) (last : ℕ) (value : Expr) → IsFront (ReadsOutermost width) (Ends sum) old value now
-      → now ≡ mark kind.Semicolon last ∷ new
+  pub print_front : (new : List Symbol) (value : Expr) → IsFront (SemicolonExpr width) Anything old value new
       → IsFront (PrintBehind width depth line) Anything old (Print value line) new
-  print_front now new last value front closes =
+  print_front new value front =
       made_front (SemicolonExpr width) (PrintBehind width depth line) (λ value. Print value line) Anything old old views_print new value
-      (λ r. grammar.print r.reads)
-      (closed_front (ReadsOutermost width) (Ends sum) kind.Semicolon semicolon_ended Anything old now new value last front closes)
+      (λ r. grammar.print r.reads) front
 
-  pub print_open : (now : List Symbol) (value : Expr) → IsFront (ReadsOutermost width) (Ends sum) old value now → NotMark kind.Semicolon now
-      → IsNoFront (PrintBehind width depth line) Anything old
-  print_open now value front open_ =
-      made_none (SemicolonExpr width) (PrintBehind width depth line) (λ value. Print value line) Anything old old views_print
-      (closed_missing (ReadsOutermost width) (Ends sum) kind.Semicolon semicolon_ended Anything old now value front open_)
+  pub print_none : IsNoFront (SemicolonExpr width) Anything old → IsNoFront (PrintBehind width depth line) Anything old
+  print_none none =
+      made_none (SemicolonExpr width) (PrintBehind width depth line) (λ value. Print value line) Anything old old views_print none
 
   views_read : Views (SemicolonPlace width) (ReadBehind width depth line) (λ target. Read target line) old old
   views_read = λ found rest r. read_view r refl
@@ -387,26 +383,16 @@ module _ (width depth : ℕ) (x : Name) (old : List Symbol) where
       targeted : IsFront (Closed (PlaceBehind width x) kind.Becomes) Anything old target behind
       targeted = closed_front (PlaceBehind width x) (NotMark kind.LeftBracket) kind.Becomes becomes_ended Anything old now behind target line front becomes
 
-      assign_valueless : IsNoFront (SemicolonExpr width) Anything behind → IsNoFront (NamedBehind width depth x) Anything old
-      assign_valueless none =
+      pub assign_no_value : IsNoFront (SemicolonExpr width) Anything behind → IsNoFront (NamedBehind width depth x) Anything old
+      assign_no_value none =
           made_none (AssignParts width x) (NamedBehind width depth x) (λ parts. Assign parts.0 parts.1 x.line) Anything old old views_assign
           (both_stops (Closed (PlaceBehind width x) kind.Becomes) Anything (SemicolonExpr width) Anything (λ _ _ _ _ _. tt) old behind target targeted none)
 
-      pub assign_no_value : IsNoFront (ReadsOutermost width) (Ends sum) behind → IsNoFront (NamedBehind width depth x) Anything old
-      assign_no_value none = assign_valueless (closed_none (ReadsOutermost width) (Ends sum) kind.Semicolon semicolon_ended Anything behind none)
-
-      pub assign_open : (after : List Symbol) (value : Expr) → IsFront (ReadsOutermost width) (Ends sum) behind value after → NotMark kind.Semicolon after
-          → IsNoFront (NamedBehind width depth x) Anything old
-      assign_open after value second open_ = assign_valueless (closed_missing (ReadsOutermost width)
-          (Ends sum) kind.Semicolon semicolon_ended Anything behind after value second open_)
-
-      pub assign_front : (after new : List Symbol) (last : ℕ) (value : Expr) → IsFront (ReadsOutermost width) (Ends sum) behind value after
-          → after ≡ mark kind.Semicolon last ∷ new
+      pub assign_front : (new : List Symbol) (value : Expr) → IsFront (SemicolonExpr width) Anything behind value new
           → IsFront (NamedBehind width depth x) Anything old (Assign target value x.line) new
-      assign_front after new last value second closes =
-          let closed = closed_front (ReadsOutermost width) (Ends sum) kind.Semicolon semicolon_ended Anything behind after new value last second closes in
+      assign_front new value second =
           let both = both_front (Closed (PlaceBehind width x) kind.Becomes) Anything (SemicolonExpr width) Anything
-          (λ _ _ _ _ _. tt) old behind new target value targeted closed in
+          (λ _ _ _ _ _. tt) old behind new target value targeted second in
           made_front (AssignParts width x) (NamedBehind width depth x) (λ parts. Assign parts.0 parts.1 x.line) Anything old old views_assign new
           (target, value)
           (λ r. grammar.assign r.first.reads r.second.reads) both

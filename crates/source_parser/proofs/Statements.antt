@@ -10,12 +10,12 @@ use Rattle.source_tree.specs.declared.expression.Expr.{Expr}
 use Rattle.source_tree.specs.declared.statement.Statement.{Statement, If, For, While}
 use Rattle.source_parser.specs.declared.fault.Fault.{Fault}
 use Rattle.source_parser.specs.declared.fault.Fault.TheVariants.{Stops, Deep, NoMemory}
-use Rattle.source_parser.specs.Symbols.{Symbol, word, numeral, mark}
+use Rattle.source_parser.specs.Symbols.{Symbol, word, mark}
 use Rattle.source_parser.specs.Grammar as grammar
 use Rattle.source_parser.specs.Grammar.{sum, ReadsOutermost, ReadsCondition, ReadsStatement, ReadsStatements, ReadsElse}
-use Rattle.source_parser.specs.Fronts.{Anything, BeginsNoStatement, Ends, EndsChoice, NotMark, NotNumeral, IsFront, IsNoFront, Tells}
+use Rattle.source_parser.specs.Fronts.{Closed, Both, Anything, BeginsNoStatement, Ends, EndsChoice, NotMark, NotNumeral, NotWord, ReadsBounds, ReadsBranches, ReadsName, ReadsNumeral, IsFront, IsNoFront, Tells}
 use Rattle.source_parser.proofs.Listing.{Listing}
-use Rattle.source_parser.proofs.Sequences.{Closed, Both, Ended, Leads, Views, closed_front, closed_none, closed_missing, both_front, both_none, both_stops}
+use Rattle.source_parser.proofs.Sequences.{Ended, Leads, Views, closed_front, closed_none, closed_missing, both_front, both_none, both_stops}
 use Rattle.source_parser.proofs.Sequences.{made_front, made_none}
 use Rattle.source_parser.proofs.StatementParts.{place_begins}
 
@@ -163,32 +163,6 @@ no_else_only : {width depth : ℕ} {old rest : List Symbol} {all : List Statemen
     → (all ≡ []) × (rest ≡ old)
 no_else_only missing r = elim (else_view r) [ inl h ↦ h | inr h ↦ absurd (missing h.0 h.1 h.2) ]
 
-else_only : {width depth line : ℕ} {old behind rest : List Symbol} {all : List Statement} → old ≡ mark kind.Else line ∷ behind → EndsChoice rest
-    → ReadsElse width depth old all rest → ReadsStatements width depth behind all rest
-else_only {behind = behind} e follows r = elim (else_view r) [
-  | inl h ↦ absurd (follows.1 _ _ (h.1 ∙ e))
-  | inr h ↦ let same : h.1 ≡ behind = let stands = h.2 in cc in rw same at h.3
-]
-
-module _ (width depth : ℕ) (old : List Symbol) where
-  pub no_else_front : NotMark kind.Else old → IsFront (ReadsElse width depth) EndsChoice old [] old
-  no_else_front missing = record { reads = grammar.no_else; only = λ all rest r _. no_else_only missing r }
-
-  module _ (behind : List Symbol) (line : ℕ) (stands : old ≡ mark kind.Else line ∷ behind) where
-    else_none : IsNoFront (ReadsStatements width depth) BeginsNoStatement behind → IsNoFront (ReadsElse width depth) EndsChoice old
-    else_none none = λ all rest r follows. none all rest (else_only stands follows r) follows.0
-
-    -- behind `else` are the second statements
-    pub else_tells : (result : Result (List Statement) Fault) (new : List Symbol) → Tells (ReadsStatements width depth) BeginsNoStatement behind result new
-        → Tells (ReadsElse width depth) EndsChoice old result new
-    else_tells (Ok found) new front = record {
-      reads = rw stands (grammar.other front.reads);
-      only = λ all rest r follows. front.only all rest (else_only stands follows r) follows.0;
-    }
-    else_tells (Err Stops) new none = else_none none
-    else_tells (Err Deep) new none = else_none none
-    else_tells (Err NoMemory) new none = tt
-
 -- ---- `end`
 abbrev pub EndStatements : ℕ → ℕ → List Symbol → List Statement → List Symbol → Type 0
 EndStatements width depth = Closed (ReadsStatements width depth) kind.End
@@ -199,10 +173,44 @@ EndElse width depth = Closed (ReadsElse width depth) kind.End
 pub end_ended : Ended BeginsNoStatement kind.End
 end_ended line rest = refl
 
-pub end_ends_choice : Ended EndsChoice kind.End
+end_ends_choice : Ended EndsChoice kind.End
 end_ends_choice line rest = (refl, λ l r e. absurd cc)
 
-else_leads : (width depth : ℕ) → Leads BeginsNoStatement (EndElse width depth) Anything
+else_only : {width depth line : ℕ} {old behind rest : List Symbol} {all : List Statement} → old ≡ mark kind.Else line ∷ behind
+    → EndElse width depth old all rest → EndStatements width depth behind all rest
+else_only {behind = behind} e r = elim (else_view r.reads) [
+  | inl h ↦ let never = h.1 ∙ e in absurd cc
+  | inr h ↦ let same : h.1 ≡ behind = let stands = h.2 in cc in record { line = r.line; reads = rw same at h.3 }
+]
+
+module _ (width depth : ℕ) (old : List Symbol) where
+  no_else_front : NotMark kind.Else old → IsFront (ReadsElse width depth) EndsChoice old [] old
+  no_else_front missing = record { reads = grammar.no_else; only = λ all rest r _. no_else_only missing r }
+
+  -- without `else`: there is `end`, or there is not
+  pub end_front : (new : List Symbol) (line : ℕ) → NotMark kind.Else old → old ≡ mark kind.End line ∷ new → IsFront (EndElse width depth) Anything old [] new
+  end_front new line missing ends = closed_front (ReadsElse width depth) EndsChoice kind.End end_ends_choice Anything old old new [] line
+      (no_else_front missing) ends
+
+  pub end_missing : NotMark kind.Else old → NotMark kind.End old → IsNoFront (EndElse width depth) Anything old
+  end_missing missing open_ = closed_missing (ReadsElse width depth) EndsChoice kind.End end_ends_choice Anything old old [] (no_else_front missing) open_
+
+  module _ (behind : List Symbol) (line : ℕ) (stands : old ≡ mark kind.Else line ∷ behind) where
+    else_none : IsNoFront (EndStatements width depth) Anything behind → IsNoFront (EndElse width depth) Anything old
+    else_none none = λ all rest r follows. none all rest (else_only stands r) follows
+
+    -- behind `else` are the second statements and `end`
+    pub else_tells : (result : Result (List Statement) Fault) (new : List Symbol) → Tells (EndStatements width depth) Anything behind result new
+        → Tells (EndElse width depth) Anything old result new
+    else_tells (Ok found) new front = record {
+      reads = let inner = front.reads in record { line = inner.line; reads = rw stands (grammar.other inner.reads) };
+      only = λ all rest r follows. front.only all rest (else_only stands r) follows;
+    }
+    else_tells (Err Stops) new none = else_none none
+    else_tells (Err Deep) new none = else_none none
+    else_tells (Err NoMemory) new none = tt
+
+pub else_leads : (width depth : ℕ) → Leads BeginsNoStatement (EndElse width depth) Anything
 else_leads width depth symbols found rest r _ = elim (else_view r.reads) [ inl h ↦ rw (sym h.1) refl | inr h ↦ rw h.2 refl ]
 
 tail_same : {a b : Symbol} {s t : List Symbol} → a ∷ s ≡ b ∷ t → s ≡ t
@@ -215,11 +223,8 @@ IfBehind width depth line symbols = ReadsStatement width (depth + 1) (mark kind.
 abbrev pub ThenCondition : ℕ → List Symbol → Condition → List Symbol → Type 0
 ThenCondition width = Closed (ReadsCondition width) kind.Then
 
-abbrev pub BranchParts : ℕ → ℕ → List Symbol → List Statement × List Statement → List Symbol → Type 0
-BranchParts width depth = Both (ReadsStatements width depth) (EndElse width depth)
-
 abbrev pub ChoiceParts : ℕ → ℕ → List Symbol → Condition × (List Statement × List Statement) → List Symbol → Type 0
-ChoiceParts width depth = Both (ThenCondition width) (BranchParts width depth)
+ChoiceParts width depth = Both (ThenCondition width) (ReadsBranches width depth)
 
 abbrev pub choice_of : ℕ → Condition × (List Statement × List Statement) → Statement
 choice_of line parts = If parts.0 parts.1.0 parts.1.1 line
@@ -250,105 +255,112 @@ choice_made : {width depth line : ℕ} {symbols rest : List Symbol} {parts : Con
     → IfBehind width depth line symbols (choice_of line parts) rest
 choice_made r = rw add-one (grammar.choice r.first.reads r.second.first r.second.second.reads)
 
-then_ended : Ended (Ends sum) kind.Then
+pub then_ended : Ended (Ends sum) kind.Then
 then_ended line rest = refl
 
 module _ (width depth line : ℕ) (old : List Symbol) where
   views_choice : Views (ChoiceParts width depth) (IfBehind width depth line) (choice_of line) old old
   views_choice = λ found rest r. choice_view r (add-one depth) refl
 
-  choice_untested : IsNoFront (ThenCondition width) Anything old → IsNoFront (IfBehind width depth line) Anything old
-  choice_untested none =
+  pub choice_no_condition : IsNoFront (ThenCondition width) Anything old → IsNoFront (IfBehind width depth line) Anything old
+  choice_no_condition none =
       made_none (ChoiceParts width depth) (IfBehind width depth line) (choice_of line) Anything old old views_choice
-      (both_none (ThenCondition width) Anything (BranchParts width depth) Anything (λ _ _ _ _ _. tt) old none)
+      (both_none (ThenCondition width) Anything (ReadsBranches width depth) Anything (λ _ _ _ _ _. tt) old none)
 
-  pub choice_no_then : (now : List Symbol) (condition : Condition) → IsFront (ReadsCondition width) (Ends sum) old condition now → NotMark kind.Then now
-      → IsNoFront (IfBehind width depth line) Anything old
-  choice_no_then now condition front missing = choice_untested (closed_missing (ReadsCondition width)
-      (Ends sum) kind.Then then_ended Anything old now condition front missing)
-
-  module _ (now behind : List Symbol) (condition : Condition) (l : ℕ) (front : IsFront (ReadsCondition width) (Ends sum) old condition now)
-      (stands : now ≡ mark kind.Then l ∷ behind) where
-    tested : IsFront (ThenCondition width) Anything old condition behind
-    tested = closed_front (ReadsCondition width) (Ends sum) kind.Then then_ended Anything old now behind condition l front stands
-
-    choice_branchless : IsNoFront (BranchParts width depth) Anything behind → IsNoFront (IfBehind width depth line) Anything old
-    choice_branchless none =
+  module _ (behind : List Symbol) (condition : Condition) (tested : IsFront (ThenCondition width) Anything old condition behind) where
+    pub choice_no_branches : IsNoFront (ReadsBranches width depth) Anything behind → IsNoFront (IfBehind width depth line) Anything old
+    choice_no_branches none =
         made_none (ChoiceParts width depth) (IfBehind width depth line) (choice_of line) Anything old old views_choice
-        (both_stops (ThenCondition width) Anything (BranchParts width depth) Anything (λ _ _ _ _ _. tt) old behind condition tested none)
+        (both_stops (ThenCondition width) Anything (ReadsBranches width depth) Anything (λ _ _ _ _ _. tt) old behind condition tested none)
 
-    pub choice_no_first : IsNoFront (ReadsStatements width depth) BeginsNoStatement behind → IsNoFront (IfBehind width depth line) Anything old
-    choice_no_first none = choice_branchless (both_none (ReadsStatements width depth) BeginsNoStatement (EndElse width depth) Anything
-        (else_leads width depth) behind none)
-
-    module _ (after : List Symbol) (first : List Statement) (branch : IsFront (ReadsStatements width depth) BeginsNoStatement behind first after) where
-      choice_endless : IsNoFront (EndElse width depth) Anything after → IsNoFront (IfBehind width depth line) Anything old
-      choice_endless none = choice_branchless (both_stops (ReadsStatements width depth) BeginsNoStatement (EndElse width depth) Anything
-          (else_leads width depth) behind after first branch none)
-
-      pub choice_no_second : IsNoFront (ReadsElse width depth) EndsChoice after → IsNoFront (IfBehind width depth line) Anything old
-      choice_no_second none = choice_endless (closed_none (ReadsElse width depth) EndsChoice kind.End end_ends_choice Anything after none)
-
-      pub choice_open : (further : List Symbol) (second : List Statement) → IsFront (ReadsElse width depth) EndsChoice after second further
-          → NotMark kind.End further
-          → IsNoFront (IfBehind width depth line) Anything old
-      choice_open further second other missing = choice_endless (closed_missing (ReadsElse width depth) EndsChoice kind.End end_ends_choice Anything after
-          further second other missing)
-
-      pub choice_front : (further new : List Symbol) (second : List Statement) (last : ℕ) → IsFront (ReadsElse width depth) EndsChoice after second further
-          → further ≡ mark kind.End last ∷ new
-          → IsFront (IfBehind width depth line) Anything old (If condition first second line) new
-      choice_front further new second last other ends =
-          let closed = closed_front (ReadsElse width depth) EndsChoice kind.End end_ends_choice Anything after further new second last other ends in
-          let branches = both_front (ReadsStatements width depth) BeginsNoStatement (EndElse width depth) Anything
-          (else_leads width depth) behind after new first second branch closed in
-          let whole = both_front (ThenCondition width) Anything (BranchParts width depth) Anything (λ _ _ _ _ _. tt) old behind new condition
-          (first, second) tested branches in
-          made_front (ChoiceParts width depth) (IfBehind width depth line) (choice_of line) Anything old old views_choice new
-          (condition, (first, second)) choice_made whole
+    pub choice_front : (new : List Symbol) (branches : List Statement × List Statement) → IsFront (ReadsBranches width depth) Anything behind branches new
+        → IsFront (IfBehind width depth line) Anything old (If condition branches.0 branches.1 line) new
+    choice_front new branches told =
+        let whole = both_front (ThenCondition width) Anything (ReadsBranches width depth) Anything (λ _ _ _ _ _. tt) old behind new condition
+        branches tested told in
+        made_front (ChoiceParts width depth) (IfBehind width depth line) (choice_of line) Anything old old views_choice new
+        (condition, branches) choice_made whole
 
 -- ---- `for`
 abbrev pub ForBehind : ℕ → ℕ → ℕ → List Symbol → Statement → List Symbol → Type 0
 ForBehind width depth line symbols = ReadsStatement width (depth + 1) (mark kind.For line ∷ symbols)
 
--- behind `name :=`
+abbrev pub Counter : List Symbol → Name → List Symbol → Type 0
+Counter = Closed ReadsName kind.Becomes
+
+pub name_front : (old new : List Symbol) (name : Name) → old ≡ word name ∷ new → IsFront ReadsName Anything old name new
+name_front old new name h = record { reads = h; only = λ other rest r _. (cc, cc) }
+
+pub name_none : (old : List Symbol) → NotWord old → IsNoFront ReadsName Anything old
+name_none old missing = λ other rest r _. missing other rest r
+
 abbrev pub ToExpr : ℕ → List Symbol → Expr → List Symbol → Type 0
 ToExpr width = Closed (ReadsOutermost width) kind.To
 
 abbrev pub DoExpr : ℕ → List Symbol → Expr → List Symbol → Type 0
 DoExpr width = Closed (ReadsOutermost width) kind.Do
 
-abbrev pub BodyParts : ℕ → ℕ → List Symbol → Expr × List Statement → List Symbol → Type 0
-BodyParts width depth = Both (DoExpr width) (EndStatements width depth)
+to_ended : Ended (Ends sum) kind.To
+to_ended line rest = refl
 
-abbrev pub CountParts : ℕ → ℕ → List Symbol → Expr × (Expr × List Statement) → List Symbol → Type 0
-CountParts width depth = Both (ToExpr width) (BodyParts width depth)
+do_ended : Ended (Ends sum) kind.Do
+do_ended line rest = refl
 
-abbrev pub count_of : ℕ → Name → Expr × (Expr × List Statement) → Statement
-count_of line x parts = For x parts.0 parts.1.0 parts.1.1 line
+module _ (width : ℕ) (old : List Symbol) where
+  bounds_unbegun : IsNoFront (ToExpr width) Anything old → IsNoFront (ReadsBounds width) Anything old
+  bounds_unbegun none = both_none (ToExpr width) Anything (DoExpr width) Anything (λ _ _ _ _ _. tt) old none
+
+  pub bounds_no_first : IsNoFront (ReadsOutermost width) (Ends sum) old → IsNoFront (ReadsBounds width) Anything old
+  bounds_no_first none = bounds_unbegun (closed_none (ReadsOutermost width) (Ends sum) kind.To to_ended Anything old none)
+
+  module _ (after : List Symbol) (from : Expr) (front : IsFront (ReadsOutermost width) (Ends sum) old from after) where
+    pub bounds_no_to : NotMark kind.To after → IsNoFront (ReadsBounds width) Anything old
+    bounds_no_to missing = bounds_unbegun (closed_missing (ReadsOutermost width) (Ends sum) kind.To to_ended Anything old after from front missing)
+
+    module _ (behind : List Symbol) (l : ℕ) (to_stands : after ≡ mark kind.To l ∷ behind) where
+      begun_bounds : IsFront (ToExpr width) Anything old from behind
+      begun_bounds = closed_front (ReadsOutermost width) (Ends sum) kind.To to_ended Anything old after behind from l front to_stands
+
+      bounds_unended : IsNoFront (DoExpr width) Anything behind → IsNoFront (ReadsBounds width) Anything old
+      bounds_unended none = both_stops (ToExpr width) Anything (DoExpr width) Anything (λ _ _ _ _ _. tt) old behind from begun_bounds none
+
+      pub bounds_no_last : IsNoFront (ReadsOutermost width) (Ends sum) behind → IsNoFront (ReadsBounds width) Anything old
+      bounds_no_last none = bounds_unended (closed_none (ReadsOutermost width) (Ends sum) kind.Do do_ended Anything behind none)
+
+      module _ (further : List Symbol) (to : Expr) (second : IsFront (ReadsOutermost width) (Ends sum) behind to further) where
+        pub bounds_no_do : NotMark kind.Do further → IsNoFront (ReadsBounds width) Anything old
+        bounds_no_do missing = bounds_unended (closed_missing (ReadsOutermost width) (Ends sum) kind.Do do_ended Anything behind further to second missing)
+
+        pub bounds_front : (new : List Symbol) (m : ℕ) → further ≡ mark kind.Do m ∷ new → IsFront (ReadsBounds width) Anything old (from, to) new
+        bounds_front new m do_stands =
+            let ended = closed_front (ReadsOutermost width) (Ends sum) kind.Do do_ended Anything behind further new to m second do_stands in
+            both_front (ToExpr width) Anything (DoExpr width) Anything (λ _ _ _ _ _. tt) old behind new from to begun_bounds ended
+
+abbrev pub BoundedBody : ℕ → ℕ → List Symbol → (Expr × Expr) × List Statement → List Symbol → Type 0
+BoundedBody width depth = Both (ReadsBounds width) (EndStatements width depth)
+
+abbrev pub CountParts : ℕ → ℕ → List Symbol → Name × ((Expr × Expr) × List Statement) → List Symbol → Type 0
+CountParts width depth = Both Counter (BoundedBody width depth)
+
+abbrev pub count_of : ℕ → Name × ((Expr × Expr) × List Statement) → Statement
+count_of line parts = For parts.0 parts.1.0.0 parts.1.0.1 parts.1.1 line
 
 count_view : {width d depth line : ℕ} {symbols behind rest : List Symbol} {found : Statement} → ReadsStatement width d symbols found rest → d ≡ suc depth
     → symbols ≡ mark kind.For line ∷ behind
-    → (x : Name) × (l : ℕ) × (inside : List Symbol) × (parts : Expr × (Expr × List Statement))
-    × (behind ≡ word x ∷ mark kind.Becomes l ∷ inside) × CountParts width depth inside parts rest
-    × (found ≡ count_of line x parts)
+    → (parts : Name × ((Expr × Expr) × List Statement)) × CountParts width depth behind parts rest × (found ≡ count_of line parts)
 count_view (grammar.assign r s) d e = let begins = place_begins r in let stands = begins.2 in absurd cc
 count_view (grammar.print r) d e = absurd cc
 count_view (grammar.read r) d e = absurd cc
 count_view (grammar.choice r s t) d e = absurd cc
 count_view {depth = depth} (grammar.count {depth = inner} {l = l} {symbols = inside} {x = x} {from = from} {to = to} {body = body} r s t) d e =
     let same : inner ≡ depth = omega arith in (
-      x,
-      l,
-      inside,
-      (from, (to, body)),
-      sym (tail_same e),
+      (x, ((from, to), body)),
       record {
-        behind = _;
-        first = record { line = _; reads = r };
+        behind = inside;
+        first = record { line = l; reads = sym (tail_same e) };
         second = record {
           behind = _;
-          first = record { line = _; reads = s };
+          first = record { behind = _; first = record { line = _; reads = r }; second = record { line = _; reads = s } };
           second = record { line = _; reads = rw same at t };
         };
       },
@@ -357,103 +369,47 @@ count_view {depth = depth} (grammar.count {depth = inner} {l = l} {symbols = ins
 count_view (grammar.repetition r s) d e = absurd cc
 count_view (grammar.call r) d e = absurd cc
 
-count_made : {width depth line l : ℕ} {x : Name} {symbols rest : List Symbol} {parts : Expr × (Expr × List Statement)}
+count_made : {width depth line : ℕ} {symbols rest : List Symbol} {parts : Name × ((Expr × Expr) × List Statement)}
     → CountParts width depth symbols parts rest
-    → ForBehind width depth line (word x ∷ mark kind.Becomes l ∷ symbols) (count_of line x parts) rest
-count_made r = rw add-one (grammar.count r.first.reads r.second.first.reads r.second.second.reads)
-
-to_ended : Ended (Ends sum) kind.To
-to_ended line rest = refl
-
-do_ended : Ended (Ends sum) kind.Do
-do_ended line rest = refl
+    → ForBehind width depth line symbols (count_of line parts) rest
+count_made r = let ends = r.second.first in
+    rw (r.first.reads, add-one) (grammar.count ends.first.reads ends.second.reads r.second.second.reads)
 
 module _ (width depth line : ℕ) (old : List Symbol) where
-  module _ (x : Name) (now inside : List Symbol) (l : ℕ) (named : old ≡ word x ∷ now) (becomes : now ≡ mark kind.Becomes l ∷ inside) where
-    views_count : Views (CountParts width depth) (ForBehind width depth line) (count_of line x) inside old
-    views_count = λ found rest r.
-        let view = count_view r (add-one depth) refl in
-        let stands = view.4 in
-        let told = view.6 in
-        let own : view.0 ≡ x = cc in
-        let same : view.2 ≡ inside = cc in
-        (view.3, rw same at view.5, cc)
+  views_count : Views (CountParts width depth) (ForBehind width depth line) (count_of line) old old
+  views_count = λ found rest r. count_view r (add-one depth) refl
 
-    count_made_here : {rest : List Symbol} {parts : Expr × (Expr × List Statement)} → CountParts width depth inside parts rest
-        → ForBehind width depth line old (count_of line x parts) rest
-    count_made_here r = rw (named, becomes) (count_made r)
+  pub count_no_counter : IsNoFront Counter Anything old → IsNoFront (ForBehind width depth line) Anything old
+  count_no_counter none =
+      made_none (CountParts width depth) (ForBehind width depth line) (count_of line) Anything old old views_count
+      (both_none Counter Anything (BoundedBody width depth) Anything (λ _ _ _ _ _. tt) old none)
 
-    count_unbound : IsNoFront (ToExpr width) Anything inside → IsNoFront (ForBehind width depth line) Anything old
-    count_unbound none =
-        made_none (CountParts width depth) (ForBehind width depth line) (count_of line x) Anything inside old views_count
-        (both_none (ToExpr width) Anything (BodyParts width depth) Anything (λ _ _ _ _ _. tt) inside none)
+  module _ (inside : List Symbol) (x : Name) (counts : IsFront Counter Anything old x inside) where
+    count_stops : IsNoFront (BoundedBody width depth) Anything inside → IsNoFront (ForBehind width depth line) Anything old
+    count_stops none =
+        made_none (CountParts width depth) (ForBehind width depth line) (count_of line) Anything old old views_count
+        (both_stops Counter Anything (BoundedBody width depth) Anything (λ _ _ _ _ _. tt) old inside x counts none)
 
-    pub count_no_first : IsNoFront (ReadsOutermost width) (Ends sum) inside → IsNoFront (ForBehind width depth line) Anything old
-    count_no_first none = count_unbound (closed_none (ReadsOutermost width) (Ends sum) kind.To to_ended Anything inside none)
+    pub count_no_bounds : IsNoFront (ReadsBounds width) Anything inside → IsNoFront (ForBehind width depth line) Anything old
+    count_no_bounds none = count_stops (both_none (ReadsBounds width) Anything (EndStatements width depth) Anything (λ _ _ _ _ _. tt) inside none)
 
-    pub count_no_to : (after : List Symbol) (from : Expr) → IsFront (ReadsOutermost width) (Ends sum) inside from after → NotMark kind.To after
-        → IsNoFront (ForBehind width depth line) Anything old
-    count_no_to after from front missing = count_unbound (closed_missing (ReadsOutermost width)
-        (Ends sum) kind.To to_ended Anything inside after from front missing)
+    module _ (behind : List Symbol) (bounds : Expr × Expr) (bounded : IsFront (ReadsBounds width) Anything inside bounds behind) where
+      pub count_no_body : IsNoFront (EndStatements width depth) Anything behind → IsNoFront (ForBehind width depth line) Anything old
+      count_no_body none = count_stops (both_stops (ReadsBounds width) Anything (EndStatements width depth) Anything
+          (λ _ _ _ _ _. tt) inside behind bounds bounded none)
 
-    module _ (after behind : List Symbol) (from : Expr) (m : ℕ) (front : IsFront (ReadsOutermost width) (Ends sum) inside from after)
-        (to_stands : after ≡ mark kind.To m ∷ behind) where
-      begun_count : IsFront (ToExpr width) Anything inside from behind
-      begun_count = closed_front (ReadsOutermost width) (Ends sum) kind.To to_ended Anything inside after behind from m front to_stands
-
-      count_stops : IsNoFront (BodyParts width depth) Anything behind → IsNoFront (ForBehind width depth line) Anything old
-      count_stops none =
-          made_none (CountParts width depth) (ForBehind width depth line) (count_of line x) Anything inside old views_count
-          (both_stops (ToExpr width) Anything (BodyParts width depth) Anything (λ _ _ _ _ _. tt) inside behind from begun_count none)
-
-      count_bodiless : IsNoFront (DoExpr width) Anything behind → IsNoFront (ForBehind width depth line) Anything old
-      count_bodiless none = count_stops (both_none (DoExpr width) Anything (EndStatements width depth) Anything (λ _ _ _ _ _. tt) behind none)
-
-      pub count_no_last : IsNoFront (ReadsOutermost width) (Ends sum) behind → IsNoFront (ForBehind width depth line) Anything old
-      count_no_last none = count_bodiless (closed_none (ReadsOutermost width) (Ends sum) kind.Do do_ended Anything behind none)
-
-      pub count_no_do : (further : List Symbol) (to : Expr) → IsFront (ReadsOutermost width) (Ends sum) behind to further → NotMark kind.Do further
-          → IsNoFront (ForBehind width depth line) Anything old
-      count_no_do further to second missing = count_bodiless (closed_missing (ReadsOutermost width)
-          (Ends sum) kind.Do do_ended Anything behind further to second missing)
-
-      module _ (further body_start : List Symbol) (to : Expr) (n : ℕ) (second : IsFront (ReadsOutermost width) (Ends sum) behind to further)
-          (do_stands : further ≡ mark kind.Do n ∷ body_start) where
-        bounded : IsFront (DoExpr width) Anything behind to body_start
-        bounded = closed_front (ReadsOutermost width) (Ends sum) kind.Do do_ended Anything behind further body_start to n second do_stands
-
-        count_endless : IsNoFront (EndStatements width depth) Anything body_start → IsNoFront (ForBehind width depth line) Anything old
-        count_endless none = count_stops (both_stops (DoExpr width) Anything (EndStatements width depth) Anything
-            (λ _ _ _ _ _. tt) behind body_start to bounded none)
-
-        pub count_no_body : IsNoFront (ReadsStatements width depth) BeginsNoStatement body_start → IsNoFront (ForBehind width depth line) Anything old
-        count_no_body none = count_endless (closed_none (ReadsStatements width depth) BeginsNoStatement kind.End end_ended Anything body_start none)
-
-        pub count_open : (body_end : List Symbol) (body : List Statement) → IsFront (ReadsStatements width depth) BeginsNoStatement body_start body body_end
-            → NotMark kind.End body_end
-            → IsNoFront (ForBehind width depth line) Anything old
-        count_open body_end body inner missing = count_endless (closed_missing (ReadsStatements width depth) BeginsNoStatement kind.End end_ended Anything
-            body_start body_end body inner missing)
-
-        pub count_front : (body_end new : List Symbol) (body : List Statement) (last : ℕ)
-            → IsFront (ReadsStatements width depth) BeginsNoStatement body_start body body_end → body_end ≡ mark kind.End last ∷ new
-            → IsFront (ForBehind width depth line) Anything old (For x from to body line) new
-        count_front body_end new body last inner ends =
-            let closed = closed_front (ReadsStatements width depth) BeginsNoStatement kind.End end_ended Anything body_start body_end new body
-            last inner ends in
-            let more = both_front (DoExpr width) Anything (EndStatements width depth) Anything
-            (λ _ _ _ _ _. tt) behind body_start new to body bounded closed in
-            let whole = both_front (ToExpr width) Anything (BodyParts width depth) Anything (λ _ _ _ _ _. tt) inside behind new from
-            (to, body) begun_count more in
-            made_front (CountParts width depth) (ForBehind width depth line) (count_of line x) Anything inside old views_count new
-            (from, (to, body)) count_made_here whole
+      pub count_front : (new : List Symbol) (body : List Statement) → IsFront (EndStatements width depth) Anything behind body new
+          → IsFront (ForBehind width depth line) Anything old (For x bounds.0 bounds.1 body line) new
+      count_front new body inner =
+          let more = both_front (ReadsBounds width) Anything (EndStatements width depth) Anything
+          (λ _ _ _ _ _. tt) inside behind new bounds body bounded inner in
+          let whole = both_front Counter Anything (BoundedBody width depth) Anything (λ _ _ _ _ _. tt) old inside new x (bounds, body) counts more in
+          made_front (CountParts width depth) (ForBehind width depth line) (count_of line) Anything old old views_count new
+          (x, (bounds, body)) count_made whole
 
 -- ---- `while`
 abbrev pub WhileBehind : ℕ → ℕ → ℕ → List Symbol → Statement → List Symbol → Type 0
 WhileBehind width depth line symbols = ReadsStatement width (depth + 1) (mark kind.While line ∷ symbols)
-
-abbrev pub ReadsNumeral : List Symbol → ℤ → List Symbol → Type 0
-ReadsNumeral symbols value rest = (line : ℕ) × (symbols ≡ numeral value line ∷ rest)
 
 pub numeral_front : (old new : List Symbol) (value : ℤ) → ReadsNumeral old value new → IsFront ReadsNumeral Anything old value new
 numeral_front old new value h = record { reads = h; only = λ other rest r _. let stands = h.1 in let told = r.1 in (cc, cc) }
@@ -501,70 +457,37 @@ repetition_made : {width depth line : ℕ} {symbols rest : List Symbol} {parts :
     → WhileBehind width depth line symbols (repetition_of line parts) rest
 repetition_made r = rw add-one (grammar.repetition (rw r.second.first.reads.1 at r.first.reads) r.second.second.reads)
 
-limit_ended : Ended (Ends sum) kind.Limit
+pub limit_ended : Ended (Ends sum) kind.Limit
 limit_ended line rest = refl
 
 module _ (width depth line : ℕ) (old : List Symbol) where
   views_repetition : Views (RepetitionParts width depth) (WhileBehind width depth line) (repetition_of line) old old
   views_repetition = λ found rest r. repetition_view r (add-one depth) refl
 
-  repetition_untested : IsNoFront (LimitCondition width) Anything old → IsNoFront (WhileBehind width depth line) Anything old
-  repetition_untested none =
+  pub repetition_no_condition : IsNoFront (LimitCondition width) Anything old → IsNoFront (WhileBehind width depth line) Anything old
+  repetition_no_condition none =
       made_none (RepetitionParts width depth) (WhileBehind width depth line) (repetition_of line) Anything old old views_repetition
       (both_none (LimitCondition width) Anything (LimitParts width depth) Anything (λ _ _ _ _ _. tt) old none)
 
-  pub repetition_no_limit : (now : List Symbol) (condition : Condition) → IsFront (ReadsCondition width) (Ends sum) old condition now → NotMark kind.Limit now
-      → IsNoFront (WhileBehind width depth line) Anything old
-  repetition_no_limit now condition front missing = repetition_untested (closed_missing (ReadsCondition width)
-      (Ends sum) kind.Limit limit_ended Anything old now condition front missing)
-
-  module _ (now behind : List Symbol) (condition : Condition) (l : ℕ) (front : IsFront (ReadsCondition width) (Ends sum) old condition now)
-      (stands : now ≡ mark kind.Limit l ∷ behind) where
-    repeated : IsFront (LimitCondition width) Anything old condition behind
-    repeated = closed_front (ReadsCondition width) (Ends sum) kind.Limit limit_ended Anything old now behind condition l front stands
-
+  module _ (behind : List Symbol) (condition : Condition) (repeated : IsFront (LimitCondition width) Anything old condition behind) where
     repetition_stops : IsNoFront (LimitParts width depth) Anything behind → IsNoFront (WhileBehind width depth line) Anything old
     repetition_stops none =
         made_none (RepetitionParts width depth) (WhileBehind width depth line) (repetition_of line) Anything old old views_repetition
         (both_stops (LimitCondition width) Anything (LimitParts width depth) Anything (λ _ _ _ _ _. tt) old behind condition repeated none)
 
-    repetition_unlimited : IsNoFront DoNumeral Anything behind → IsNoFront (WhileBehind width depth line) Anything old
-    repetition_unlimited none = repetition_stops (both_none DoNumeral Anything (EndStatements width depth) Anything (λ _ _ _ _ _. tt) behind none)
+    pub repetition_no_limit : IsNoFront DoNumeral Anything behind → IsNoFront (WhileBehind width depth line) Anything old
+    repetition_no_limit none = repetition_stops (both_none DoNumeral Anything (EndStatements width depth) Anything (λ _ _ _ _ _. tt) behind none)
 
-    pub repetition_no_number : NotNumeral behind → IsNoFront (WhileBehind width depth line) Anything old
-    repetition_no_number missing = repetition_unlimited (closed_none ReadsNumeral Anything kind.Do (λ _ _. tt) Anything behind (numeral_none behind missing))
+    module _ (body_start : List Symbol) (limit : ℤ) (limited : IsFront DoNumeral Anything behind limit body_start) where
+      pub repetition_no_body : IsNoFront (EndStatements width depth) Anything body_start → IsNoFront (WhileBehind width depth line) Anything old
+      repetition_no_body none = repetition_stops (both_stops DoNumeral Anything (EndStatements width depth) Anything
+          (λ _ _ _ _ _. tt) behind body_start limit limited none)
 
-    module _ (after : List Symbol) (limit : ℤ) (number : ReadsNumeral behind limit after) where
-      pub repetition_no_do : NotMark kind.Do after → IsNoFront (WhileBehind width depth line) Anything old
-      repetition_no_do missing = repetition_unlimited (closed_missing ReadsNumeral Anything kind.Do (λ _ _. tt) Anything behind after limit
-          (numeral_front behind after limit number) missing)
-
-      module _ (body_start : List Symbol) (n : ℕ) (do_stands : after ≡ mark kind.Do n ∷ body_start) where
-        limited : IsFront DoNumeral Anything behind limit body_start
-        limited = closed_front ReadsNumeral Anything kind.Do (λ _ _. tt) Anything behind after body_start limit n
-            (numeral_front behind after limit number) do_stands
-
-        repetition_endless : IsNoFront (EndStatements width depth) Anything body_start → IsNoFront (WhileBehind width depth line) Anything old
-        repetition_endless none = repetition_stops (both_stops DoNumeral Anything (EndStatements width depth) Anything
-            (λ _ _ _ _ _. tt) behind body_start limit limited none)
-
-        pub repetition_no_body : IsNoFront (ReadsStatements width depth) BeginsNoStatement body_start → IsNoFront (WhileBehind width depth line) Anything old
-        repetition_no_body none = repetition_endless (closed_none (ReadsStatements width depth) BeginsNoStatement kind.End end_ended Anything body_start none)
-
-        pub repetition_open : (body_end : List Symbol) (body : List Statement) → IsFront (ReadsStatements width depth) BeginsNoStatement body_start body
-            body_end → NotMark kind.End body_end
-            → IsNoFront (WhileBehind width depth line) Anything old
-        repetition_open body_end body inner missing = repetition_endless (closed_missing (ReadsStatements width depth) BeginsNoStatement kind.End end_ended
-            Anything body_start body_end body inner missing)
-
-        pub repetition_front : (body_end new : List Symbol) (body : List Statement) (last : ℕ)
-            → IsFront (ReadsStatements width depth) BeginsNoStatement body_start body body_end → body_end ≡ mark kind.End last ∷ new
-            → IsFront (WhileBehind width depth line) Anything old (While condition limit body line) new
-        repetition_front body_end new body last inner ends =
-            let closed = closed_front (ReadsStatements width depth) BeginsNoStatement kind.End end_ended Anything body_start body_end new body
-            last inner ends in
-            let more = both_front DoNumeral Anything (EndStatements width depth) Anything (λ _ _ _ _ _. tt) behind body_start new limit body limited closed in
-            let whole = both_front (LimitCondition width) Anything (LimitParts width depth) Anything (λ _ _ _ _ _. tt) old behind new condition
-            (limit, body) repeated more in
-            made_front (RepetitionParts width depth) (WhileBehind width depth line) (repetition_of line) Anything old old views_repetition new
-            (condition, (limit, body)) repetition_made whole
+      pub repetition_front : (new : List Symbol) (body : List Statement) → IsFront (EndStatements width depth) Anything body_start body new
+          → IsFront (WhileBehind width depth line) Anything old (While condition limit body line) new
+      repetition_front new body inner =
+          let more = both_front DoNumeral Anything (EndStatements width depth) Anything (λ _ _ _ _ _. tt) behind body_start new limit body limited inner in
+          let whole = both_front (LimitCondition width) Anything (LimitParts width depth) Anything (λ _ _ _ _ _. tt) old behind new condition
+          (limit, body) repeated more in
+          made_front (RepetitionParts width depth) (WhileBehind width depth line) (repetition_of line) Anything old old views_repetition new
+          (condition, (limit, body)) repetition_made whole

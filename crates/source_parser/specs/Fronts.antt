@@ -6,10 +6,12 @@ use Rattle.source_lexer.specs.declared.token.TokenKind.TheVariants as kind
 use Rattle.source_tree.specs.declared.name.Name.{Name}
 use Rattle.source_tree.specs.declared.expression.Operator.{Operator}
 use Rattle.source_tree.specs.declared.expression.Comparison.{Comparison}
+use Rattle.source_tree.specs.declared.expression.Expr.{Expr}
+use Rattle.source_tree.specs.declared.statement.Statement.{Statement}
 use Rattle.source_parser.specs.declared.fault.Fault.{Fault}
 use Rattle.source_parser.specs.declared.fault.Fault.TheVariants.{Stops, Deep, NoMemory}
 use Rattle.source_parser.specs.Symbols.{Symbol, word, numeral, mark}
-use Rattle.source_parser.specs.Grammar.{Level, term, sum, Joins, Compares}
+use Rattle.source_parser.specs.Grammar.{Level, term, sum, Joins, Compares, ReadsOutermost, ReadsStatements, ReadsElse}
 
 -- ---- what isn't there
 -- a kind that stands for itself: a keyword or a symbol
@@ -148,6 +150,35 @@ BeginsNoDeclaration (mark kind line ∷ symbols) = begins_declaration kind ≡ f
 
 abbrev pub AtEnd : List Symbol → Type 0
 AtEnd symbols = symbols ≡ []
+
+-- ---- things one behind the other
+-- a thing and a mark behind it
+pub record Closed {A : Type 0} (Reads : List Symbol → A → List Symbol → Type 0) (kind : TokenKind) (symbols : List Symbol) (found : A)
+    (rest : List Symbol) : Type 0 where
+  pub line : ℕ
+  pub reads : Reads symbols found (mark kind line ∷ rest)
+
+-- a thing behind a thing
+pub record Both {A B : Type 0} (First : List Symbol → A → List Symbol → Type 0) (Second : List Symbol → B → List Symbol → Type 0) (symbols : List Symbol)
+    (found : A × B) (rest : List Symbol) : Type 0 where
+  pub behind : List Symbol
+  pub first : First symbols found.0 behind
+  pub second : Second behind found.1 rest
+
+-- a name, and a number
+abbrev pub ReadsName : List Symbol → Name → List Symbol → Type 0
+ReadsName symbols name rest = symbols ≡ word name ∷ rest
+
+abbrev pub ReadsNumeral : List Symbol → ℤ → List Symbol → Type 0
+ReadsNumeral symbols value rest = (line : ℕ) × (symbols ≡ numeral value line ∷ rest)
+
+-- `first to last do`
+abbrev pub ReadsBounds : ℕ → List Symbol → Expr × Expr → List Symbol → Type 0
+ReadsBounds width = Both (Closed (ReadsOutermost width) kind.To) (Closed (ReadsOutermost width) kind.Do)
+
+-- `statements else statements end`, the second statements with their `else` or neither
+abbrev pub ReadsBranches : ℕ → ℕ → List Symbol → List Statement × List Statement → List Symbol → Type 0
+ReadsBranches width depth = Both (ReadsStatements width depth) (Closed (ReadsElse width depth) kind.End)
 
 -- ---- operators
 -- an operator of a level, taken where it stands in front and more are allowed

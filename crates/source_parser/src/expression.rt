@@ -1,12 +1,13 @@
-ghost use Rattle.std.specs.Prelude.{◌≡◌, ◌+◌, ◌≤◌, IfOk, OnOk, length};
+ghost use Rattle.std.specs.Prelude.{◌≡◌, ◌+◌, ◌≤◌, ◌∷◌, IfOk, OnOk, length};
 ghost use Rattle.source_parser.specs.Grammar.{factor, term, sum, weight, ReadsWithin, ReadsOutermost};
+ghost use Rattle.source_parser.specs.Symbols.{word};
 ghost use Rattle.source_parser.specs.Fronts.{Consumes, ConsumesNext, Ends, IsMark, Tells, TakesOperator, TakesWeighty};
 ghost use Rattle.source_tree.specs.declared.expression.Expr.{Binary};
 
 use crate::fault::Fault;
 use crate::reader::Reader;
 use source_lexer::TokenKind;
-use source_tree::{Expr, Operator};
+use source_tree::{Expr, Name, Operator};
 use sqlite_items::Boxed;
 use std::alloc::{AllocError, Global};
 
@@ -73,6 +74,21 @@ fn factor(alloc: Global, reader: &mut Reader<'_>, allowed: &mut usize) -> Result
         return Ok(Expr::Number { value, line });
     }
     let name = reader.expect_name(alloc)?;
+    variable(alloc, reader, allowed, name)
+}
+
+/// Behind a name: an index, or nothing.
+#[cycle(expression)]
+fn variable(
+    alloc: Global,
+    reader: &mut Reader<'_>,
+    allowed: &mut usize,
+    name: Name,
+) -> Result<Expr, Fault>
+    ensures value { Tells (λ symbols. ReadsWithin factor allowed.old (word name ∷ symbols)) (Ends factor) reader.old result reader.new }
+    ensures spent { OnOk result (weight reader.old + allowed.new ≡ weight reader.new + allowed.old) }
+    ensures shorter { length reader.new ≤ length reader.old }
+{
     if weighty(reader, TokenKind::LeftBracket, allowed)?.is_none() {
         return Ok(Expr::Name(name));
     }

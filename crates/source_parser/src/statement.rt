@@ -1,8 +1,8 @@
 ghost use Rattle.std.specs.Prelude.{ℕ, ◌+◌, ◌≤◌, ◌∷◌, length};
-ghost use Rattle.source_lexer.specs.declared.token.TokenKind.TheVariants.{For as ForToken, If as IfToken, LeftBracket, Print as PrintToken, Read as ReadToken, While as WhileToken};
+ghost use Rattle.source_lexer.specs.declared.token.TokenKind.TheVariants.{Becomes as BecomesToken, Do as DoToken, End as EndToken, For as ForToken, If as IfToken, LeftBracket, Limit as LimitToken, Print as PrintToken, Read as ReadToken, Semicolon as SemicolonToken, Then as ThenToken, While as WhileToken};
 ghost use Rattle.source_parser.specs.Grammar.{sum, ReadsCondition, ReadsElse, ReadsListed, ReadsOutermost, ReadsPlace, ReadsStatement, ReadsStatements};
 ghost use Rattle.source_parser.specs.Symbols.{mark, word};
-ghost use Rattle.source_parser.specs.Fronts.{Anything, BeginsNoStatement, Consumes, ConsumesNext, Ends, EndsChoice, ExpectsComparison, NotMark, Tells, TellsNext};
+ghost use Rattle.source_parser.specs.Fronts.{Anything, BeginsNoStatement, Closed, Consumes, ConsumesNext, Ends, ExpectsComparison, NotMark, ReadsBounds, ReadsBranches, ReadsName, ReadsNumeral, Tells, TellsNext};
 
 use crate::expression::expr;
 use crate::fault::Fault;
@@ -71,11 +71,8 @@ fn choice(
     ensures value { Tells (λ symbols. ReadsStatement 200 (depth + 1) (mark IfToken line ∷ symbols)) Anything reader.old result reader.new }
     ensures shorter { Consumes reader.old result reader.new }
 {
-    let condition = condition(alloc, reader)?;
-    reader.expect(TokenKind::Then)?;
-    let first = statements(alloc, reader, depth)?;
-    let second = otherwise(alloc, reader, depth)?;
-    reader.expect(TokenKind::End)?;
+    let condition = choice_condition(alloc, reader)?;
+    let (first, second) = branches(alloc, reader, depth)?;
     Ok(Statement::If {
         condition,
         first,
@@ -84,20 +81,47 @@ fn choice(
     })
 }
 
-/// `else statements`, or nothing.
+/// `statements else statements end`, or `statements end`.
+#[cycle(statement)]
+fn branches(
+    alloc: Global,
+    reader: &mut Reader<'_>,
+    depth: usize,
+) -> Result<(Items<Statement>, Items<Statement>), Fault>
+    ensures value { Tells (ReadsBranches 200 depth) Anything reader.old result reader.new }
+    ensures shorter { Consumes reader.old result reader.new }
+{
+    let first = statements(alloc, reader, depth)?;
+    let second = otherwise(alloc, reader, depth)?;
+    Ok((first, second))
+}
+
+/// `else statements end`, or `end`.
 #[cycle(statement)]
 fn otherwise(
     alloc: Global,
     reader: &mut Reader<'_>,
     depth: usize,
 ) -> Result<Items<Statement>, Fault>
-    ensures value { Tells (ReadsElse 200 depth) EndsChoice reader.old result reader.new }
-    ensures shorter { length reader.new ≤ length reader.old }
+    ensures value { Tells (Closed (ReadsElse 200 depth) EndToken) Anything reader.old result reader.new }
+    ensures shorter { Consumes reader.old result reader.new }
 {
     if reader.take(TokenKind::Else).is_none() {
+        reader.expect(TokenKind::End)?;
         return Ok(Items::new(alloc));
     }
-    statements(alloc, reader, depth)
+    body(alloc, reader, depth)
+}
+
+/// `statements end`
+#[cycle(statement)]
+fn body(alloc: Global, reader: &mut Reader<'_>, depth: usize) -> Result<Items<Statement>, Fault>
+    ensures value { Tells (Closed (ReadsStatements 200 depth) EndToken) Anything reader.old result reader.new }
+    ensures shorter { Consumes reader.old result reader.new }
+{
+    let found = statements(alloc, reader, depth)?;
+    reader.expect(TokenKind::End)?;
+    Ok(found)
 }
 
 /// Behind `for`: `name := first to last do statements end`.
@@ -111,14 +135,9 @@ fn count(
     ensures value { Tells (λ symbols. ReadsStatement 200 (depth + 1) (mark ForToken line ∷ symbols)) Anything reader.old result reader.new }
     ensures shorter { Consumes reader.old result reader.new }
 {
-    let name = reader.expect_name(alloc)?;
-    reader.expect(TokenKind::Becomes)?;
-    let first = expr(alloc, reader)?;
-    reader.expect(TokenKind::To)?;
-    let last = expr(alloc, reader)?;
-    reader.expect(TokenKind::Do)?;
-    let body = statements(alloc, reader, depth)?;
-    reader.expect(TokenKind::End)?;
+    let name = counter(alloc, reader)?;
+    let (first, last) = bounds(alloc, reader)?;
+    let body = body(alloc, reader, depth)?;
     Ok(Statement::For {
         name,
         first,
@@ -139,12 +158,9 @@ fn repetition(
     ensures value { Tells (λ symbols. ReadsStatement 200 (depth + 1) (mark WhileToken line ∷ symbols)) Anything reader.old result reader.new }
     ensures shorter { Consumes reader.old result reader.new }
 {
-    let condition = condition(alloc, reader)?;
-    reader.expect(TokenKind::Limit)?;
-    let limit = reader.expect_number()?;
-    reader.expect(TokenKind::Do)?;
-    let body = statements(alloc, reader, depth)?;
-    reader.expect(TokenKind::End)?;
+    let condition = limited_condition(alloc, reader)?;
+    let limit = limit(reader)?;
+    let body = body(alloc, reader, depth)?;
     Ok(Statement::While {
         condition,
         limit,
@@ -153,14 +169,75 @@ fn repetition(
     })
 }
 
+/// `condition then`
+fn choice_condition(alloc: Global, reader: &mut Reader<'_>) -> Result<Condition, Fault>
+    ensures value { Tells (Closed (ReadsCondition 200) ThenToken) Anything reader.old result reader.new }
+    ensures shorter { Consumes reader.old result reader.new }
+{
+    let condition = condition(alloc, reader)?;
+    reader.expect(TokenKind::Then)?;
+    Ok(condition)
+}
+
+/// `name :=`
+fn counter(alloc: Global, reader: &mut Reader<'_>) -> Result<Name, Fault>
+    ensures value { Tells (Closed ReadsName BecomesToken) Anything reader.old result reader.new }
+    ensures shorter { Consumes reader.old result reader.new }
+{
+    let name = reader.expect_name(alloc)?;
+    reader.expect(TokenKind::Becomes)?;
+    Ok(name)
+}
+
+/// `first to last do`
+fn bounds(alloc: Global, reader: &mut Reader<'_>) -> Result<(Expr, Expr), Fault>
+    ensures value { Tells (ReadsBounds 200) Anything reader.old result reader.new }
+    ensures shorter { Consumes reader.old result reader.new }
+{
+    let first = expr(alloc, reader)?;
+    reader.expect(TokenKind::To)?;
+    let last = expr(alloc, reader)?;
+    reader.expect(TokenKind::Do)?;
+    Ok((first, last))
+}
+
+/// `condition limit`
+fn limited_condition(alloc: Global, reader: &mut Reader<'_>) -> Result<Condition, Fault>
+    ensures value { Tells (Closed (ReadsCondition 200) LimitToken) Anything reader.old result reader.new }
+    ensures shorter { Consumes reader.old result reader.new }
+{
+    let condition = condition(alloc, reader)?;
+    reader.expect(TokenKind::Limit)?;
+    Ok(condition)
+}
+
+/// `number do`
+fn limit(reader: &mut Reader<'_>) -> Result<i128, Fault>
+    ensures value { Tells (Closed ReadsNumeral DoToken) Anything reader.old result reader.new }
+    ensures shorter { Consumes reader.old result reader.new }
+{
+    let limit = reader.expect_number()?;
+    reader.expect(TokenKind::Do)?;
+    Ok(limit)
+}
+
 /// Behind `print`: `value;`
 fn print(alloc: Global, reader: &mut Reader<'_>, line: u32) -> Result<Statement, Fault>
     ensures value { (depth : ℕ) → Tells (λ symbols. ReadsStatement 200 depth (mark PrintToken line ∷ symbols)) Anything reader.old result reader.new }
     ensures shorter { Consumes reader.old result reader.new }
 {
+    let value = value(alloc, reader)?;
+    Ok(Statement::Print { value, line })
+}
+
+/// `value;`
+fn value(alloc: Global, reader: &mut Reader<'_>) -> Result<Expr, Fault>
+    ensures value { Tells (Closed (ReadsOutermost 200) SemicolonToken) Anything reader.old result reader.new }
+    ensures shorter { Consumes reader.old result reader.new }
+{
     let value = expr(alloc, reader)?;
     reader.expect(TokenKind::Semicolon)?;
-    Ok(Statement::Print { value, line })
+    Ok(value)
 }
 
 /// Behind `read`: `place;`
@@ -191,8 +268,7 @@ fn named(alloc: Global, reader: &mut Reader<'_>, name: Name) -> Result<Statement
     }
     let place = place(alloc, reader, name)?;
     reader.expect(TokenKind::Becomes)?;
-    let value = expr(alloc, reader)?;
-    reader.expect(TokenKind::Semicolon)?;
+    let value = value(alloc, reader)?;
     Ok(Statement::Assign { place, value, line })
 }
 

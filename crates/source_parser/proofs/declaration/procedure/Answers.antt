@@ -1,4 +1,5 @@
-use Rattle.std.proofs.Common.{◌∷◌}
+use Rattle.std.proofs.lemmas.Grind.{common_steps}
+use Rattle.std.proofs.Common.{arith, ◌∷◌}
 use Rattle.source_lexer.specs.declared.token.TokenKind.TheVariants as kind
 use Rattle.source_parser.specs.Symbols.{mark}
 use Rattle.source_parser.specs.Grammar.{ReadsDeclaration, ReadsStatements}
@@ -34,3 +35,27 @@ returns-clause-value c =
     c.in_ok-params.params c.params.new.reader c.in_ok-params.ensures.value c.in_ok-locals.locals c.locals.new.reader c.in_ok-locals.ensures.value
     c.in_ok-expect-2.field-0 c.expect-2.new.self c.in_ok-expect-2.ensures.value c.in_ok-body.body c.statements.new.reader c.in_ok-body.ensures.value
     c.in_ok-expect-3.field-0 c.expect-3.new.self c.in_ok-expect-3.ensures.value
+
+pub returns-in_err-name-clause-shorter : goal.returns-in_err-name-clause-shorter
+returns-in_err-name-clause-shorter c = grind (arith, common_steps)
+
+pub returns-in_err-expect-clause-shorter : goal.returns-in_err-expect-clause-shorter
+returns-in_err-expect-clause-shorter c = grind (arith, common_steps)
+
+pub returns-in_err-params-clause-shorter : goal.returns-in_err-params-clause-shorter
+returns-in_err-params-clause-shorter c = grind (arith, common_steps)
+
+pub returns-in_err-locals-clause-shorter : goal.returns-in_err-locals-clause-shorter
+returns-in_err-locals-clause-shorter c = grind (arith, common_steps)
+
+pub returns-in_err-expect-2-clause-shorter : goal.returns-in_err-expect-2-clause-shorter
+returns-in_err-expect-2-clause-shorter c = grind (arith, common_steps)
+
+pub returns-in_err-body-clause-shorter : goal.returns-in_err-body-clause-shorter
+returns-in_err-body-clause-shorter c = grind (arith, common_steps)
+
+pub returns-in_err-expect-3-clause-shorter : goal.returns-in_err-expect-3-clause-shorter
+returns-in_err-expect-3-clause-shorter c = grind (arith, common_steps)
+
+pub returns-clause-shorter : goal.returns-clause-shorter
+returns-clause-shorter c = grind (arith, common_steps)

@@ -1,13 +1,16 @@
-use Rattle.std.proofs.Common.{sym, ap, subst, ◌∙◌, not, rules}
+use Rattle.std.proofs.lemmas.Grind.{common_steps}
+use Rattle.std.proofs.Common.{arith, refl, sym, ap, subst, ◌∙◌, not, rules}
 use Rattle.std.specs.Int.{w128}
 use Rattle.std.specs.Int.RustNames.{FitsSigned}
 use Rattle.std.proofs.lemmas.Int.{to_z-of_z}
 use Rattle.source_lexer.specs.declared.token.TokenKind.TheVariants as kind
+use Rattle.source_parser.specs.Symbols.{word}
 use Rattle.source_parser.specs.Grammar.{factor, term, sum, ReadsWithin}
 use Rattle.source_parser.specs.Fronts.{NotMark, NotWord, NotNumeral, Ends}
+use Rattle.source_parser.proofs.Sequences.{begun_tells}
 use Rattle.source_parser.proofs.Taken.{weighty_taken, weighty_missed}
 use Rattle.source_parser.proofs.Failing.{fails, part_fails, word_fails}
-use Rattle.source_parser.proofs.Factors.{negated_front, negated_none, negated_deep, bracketed_front, bracketed_none, bracketed_open, bracketed_deep, number_front, name_front, element_front, element_none, element_open, element_deep, no_factor}
+use Rattle.source_parser.proofs.Factors.{negated_front, negated_none, negated_deep, bracketed_front, bracketed_none, bracketed_open, bracketed_deep, number_front, name_front, behind_name, element_front, element_none, element_open, element_deep, no_factor}
 use Rattle.source_parser.proofs.Joined.{joining_starts, joining_turns, joining_ends, no_first_part, no_right_part, no_operator_allowed}
 use Rattle.source_parser.proofs.expression.+expression.Goals as goal
 
@@ -81,60 +84,6 @@ factor-returns-in_err-name-clause-value t c =
     c.in_err-name.ensures.value c.from_residual-in_err-name.ensures.1
     (λ named. no_factor minus.2 (subst (NotMark kind.LeftParen) minus.0 paren.2) (subst NotNumeral back numbered.1) (subst NotWord (numbered.0 ∙ back) named))
 
-pub factor-returns-in_err-weighty-2-clause-value :
-    goal.factor-returns-in_err-weighty-2-clause-value
-factor-returns-in_err-weighty-2-clause-value t c =
-    let minus = rw c.in_default.is at c.in_ok-line.ensures.value in
-    let paren = weighty_missed _ _ _ _ _ _ c.in_ok-weighty.ensures.value (sym c.is_some.ensures ∙ c.if-is_some.false) in
-    let back = paren.0 ∙ minus.0 in
-    let kept = paren.1 ∙ minus.1 in
-    let numbered = c.in_default-take_number.ensures.value in
-    let same = numbered.0 ∙ back in
-    let start = sym same ∙ c.in_ok-name.ensures.value in
-    let deep = c.in_err-weighty-2.ensures.value in
-    fails _ _ _ _ _ c.from_residual-in_err-weighty-2.ensures.0
-    (element_deep start deep.3 (sym kept ∙ deep.0))
-
-pub factor-returns-then-is_none-clause-value : goal.factor-returns-then-is_none-clause-value
-factor-returns-then-is_none-clause-value t c =
-    let minus = rw c.in_default.is at c.in_ok-line.ensures.value in
-    let paren = weighty_missed _ _ _ _ _ _ c.in_ok-weighty.ensures.value (sym c.is_some.ensures ∙ c.if-is_some.false) in
-    let back = paren.0 ∙ minus.0 in
-    let numbered = c.in_default-take_number.ensures.value in
-    let same = numbered.0 ∙ back in
-    let start = sym same ∙ c.in_ok-name.ensures.value in
-    let bracket = weighty_missed _ _ _ _ _ _ c.in_ok-weighty-2.ensures.value (c.is_none.ensures ∙ ap not c.if-is_none.true) in
-    rw bracket.0 (name_front start bracket.2)
-
-pub factor-returns-in_err-index-clause-value : goal.factor-returns-in_err-index-clause-value
-factor-returns-in_err-index-clause-value t c =
-    let minus = rw c.in_default.is at c.in_ok-line.ensures.value in
-    let paren = weighty_missed _ _ _ _ _ _ c.in_ok-weighty.ensures.value (sym c.is_some.ensures ∙ c.if-is_some.false) in
-    let back = paren.0 ∙ minus.0 in
-    let kept = paren.1 ∙ minus.1 in
-    let numbered = c.in_default-take_number.ensures.value in
-    let same = numbered.0 ∙ back in
-    let start = sym same ∙ c.in_ok-name.ensures.value in
-    let bracket = weighty_taken _ _ _ _ _ _ c.in_ok-weighty-2.ensures.value (c.is_none.ensures ∙ ap not c.if-is_none.false) in
-    let spends = sym kept ∙ bracket.2 in
-    part_fails (ReadsWithin sum c.weighty-3.new.allowed) (Ends sum) c.weighty-3.new.reader c.sum-2.new.reader _ _ _ _ _ _
-    c.in_err-index.ensures.value c.from_residual-in_err-index.ensures.1 (element_none start bracket.1 spends)
-
-pub factor-returns-in_err-expect-2-clause-value : goal.factor-returns-in_err-expect-2-clause-value
-factor-returns-in_err-expect-2-clause-value t c =
-    let minus = rw c.in_default.is at c.in_ok-line.ensures.value in
-    let paren = weighty_missed _ _ _ _ _ _ c.in_ok-weighty.ensures.value (sym c.is_some.ensures ∙ c.if-is_some.false) in
-    let back = paren.0 ∙ minus.0 in
-    let kept = paren.1 ∙ minus.1 in
-    let numbered = c.in_default-take_number.ensures.value in
-    let same = numbered.0 ∙ back in
-    let start = sym same ∙ c.in_ok-name.ensures.value in
-    let bracket = weighty_taken _ _ _ _ _ _ c.in_ok-weighty-2.ensures.value (c.is_none.ensures ∙ ap not c.if-is_none.false) in
-    let spends = sym kept ∙ bracket.2 in
-    let missing = c.in_err-expect-2.ensures.value in
-    fails _ _ _ _ _ c.from_residual-in_err-expect-2.ensures.0
-    (element_open start bracket.1 spends c.in_ok-index.ensures.value missing.1)
-
 pub factor-returns-clause-value : goal.factor-returns-clause-value
 factor-returns-clause-value t c =
     let minus = rw c.in_default.is at c.in_ok-line.ensures.value in
@@ -142,11 +91,39 @@ factor-returns-clause-value t c =
     let back = paren.0 ∙ minus.0 in
     let kept = paren.1 ∙ minus.1 in
     let numbered = c.in_default-take_number.ensures.value in
-    let same = numbered.0 ∙ back in
-    let start = sym same ∙ c.in_ok-name.ensures.value in
-    let bracket = weighty_taken _ _ _ _ _ _ c.in_ok-weighty-2.ensures.value (c.is_none.ensures ∙ ap not c.if-is_none.false) in
-    let spends = sym kept ∙ bracket.2 in
-    rw c.in_ok-index-2.ensures (element_front start bracket.1 spends c.in_ok-index.ensures.value c.in_ok-expect-2.ensures.value)
+    let start = sym (numbered.0 ∙ back) ∙ c.in_ok-name.ensures.value in
+    begun_tells (ReadsWithin factor c.args.allowed.now) (Ends factor) (word c.in_ok-name.name) c.args.reader.now c.expect_name.new.self start
+    c.variable.result c.variable.new.reader (rw kept at c.variable.ensures.value)
+
+pub variable-returns-in_err-weighty-clause-value : goal.variable-returns-in_err-weighty-clause-value
+variable-returns-in_err-weighty-clause-value t c =
+    let deep = c.in_err-weighty.ensures.value in
+    fails _ _ _ _ _ c.from_residual.ensures.0 (element_deep refl deep.3 deep.0)
+
+pub variable-returns-then-is_none-clause-value : goal.variable-returns-then-is_none-clause-value
+variable-returns-then-is_none-clause-value t c =
+    let bracket = weighty_missed _ _ _ _ _ _ c.in_ok-weighty.ensures.value (c.is_none.ensures ∙ ap not c.if-is_none.true) in
+    rw bracket.0 (behind_name (name_front refl bracket.2))
+
+pub variable-returns-in_err-index-clause-value : goal.variable-returns-in_err-index-clause-value
+variable-returns-in_err-index-clause-value t c =
+    let bracket = weighty_taken _ _ _ _ _ _ c.in_ok-weighty.ensures.value (c.is_none.ensures ∙ ap not c.if-is_none.false) in
+    part_fails (ReadsWithin sum c.weighty.new.allowed) (Ends sum) c.weighty.new.reader c.sum.new.reader _ _ _ _ _ _
+    c.in_err-index.ensures.value c.from_residual-in_err-index.ensures.1 (element_none refl bracket.1 bracket.2)
+
+pub variable-returns-in_err-expect-clause-value : goal.variable-returns-in_err-expect-clause-value
+variable-returns-in_err-expect-clause-value t c =
+    let bracket = weighty_taken _ _ _ _ _ _ c.in_ok-weighty.ensures.value (c.is_none.ensures ∙ ap not c.if-is_none.false) in
+    let missing = c.in_err-expect.ensures.value in
+    fails _ _ _ _ _ c.from_residual-in_err-expect.ensures.0
+    (element_open refl bracket.1 bracket.2 c.in_ok-index.ensures.value missing.1)
+
+pub variable-returns-clause-value : goal.variable-returns-clause-value
+variable-returns-clause-value t c =
+    let bracket = weighty_taken _ _ _ _ _ _ c.in_ok-weighty.ensures.value (c.is_none.ensures ∙ ap not c.if-is_none.false) in
+    rw c.in_ok-index-2.ensures (
+    behind_name (element_front refl bracket.1 bracket.2 c.in_ok-index.ensures.value c.in_ok-expect.ensures.value)
+    )
 
 pub sum-returns-in_err-left-clause-value : goal.sum-returns-in_err-left-clause-value
 sum-returns-in_err-left-clause-value t c =
@@ -213,3 +190,166 @@ pub term-returns-clause-value : goal.term-returns-clause-value
 term-returns-clause-value t c =
     let none = rw c.in_default.is at c.in_ok-operator.ensures.value in
     rw none.0 (joining_ends c.loop-left.invariant none.2)
+
+-- ---- fewer symbols and less weight are left
+pub factor-returns-in_err-line-clause-spent : goal.factor-returns-in_err-line-clause-spent
+factor-returns-in_err-line-clause-spent t c = grind (arith, common_steps)
+
+pub factor-returns-in_err-line-clause-shorter : goal.factor-returns-in_err-line-clause-shorter
+factor-returns-in_err-line-clause-shorter t c = grind (arith, common_steps)
+
+pub factor-returns-in_err-operand-clause-spent : goal.factor-returns-in_err-operand-clause-spent
+factor-returns-in_err-operand-clause-spent t c = grind (arith, common_steps)
+
+pub factor-returns-in_err-operand-clause-shorter : goal.factor-returns-in_err-operand-clause-shorter
+factor-returns-in_err-operand-clause-shorter t c = grind (arith, common_steps)
+
+pub factor-returns-in_err-operand-2-clause-spent : goal.factor-returns-in_err-operand-2-clause-spent
+factor-returns-in_err-operand-2-clause-spent t c = grind (arith, common_steps)
+
+pub factor-returns-in_err-operand-2-clause-shorter : goal.factor-returns-in_err-operand-2-clause-shorter
+factor-returns-in_err-operand-2-clause-shorter t c = grind (arith, common_steps)
+
+pub factor-returns-in-Some-clause-spent : goal.factor-returns-in-Some-clause-spent
+factor-returns-in-Some-clause-spent t c = grind (arith, common_steps)
+
+pub factor-returns-in-Some-clause-shorter : goal.factor-returns-in-Some-clause-shorter
+factor-returns-in-Some-clause-shorter t c = grind (arith, common_steps)
+
+pub factor-returns-in_err-weighty-clause-spent : goal.factor-returns-in_err-weighty-clause-spent
+factor-returns-in_err-weighty-clause-spent t c = grind (arith, common_steps)
+
+pub factor-returns-in_err-weighty-clause-shorter : goal.factor-returns-in_err-weighty-clause-shorter
+factor-returns-in_err-weighty-clause-shorter t c = grind (arith, common_steps)
+
+pub factor-returns-in_err-inner-clause-spent : goal.factor-returns-in_err-inner-clause-spent
+factor-returns-in_err-inner-clause-spent t c = grind (arith, common_steps)
+
+pub factor-returns-in_err-inner-clause-shorter : goal.factor-returns-in_err-inner-clause-shorter
+factor-returns-in_err-inner-clause-shorter t c = grind (arith, common_steps)
+
+pub factor-returns-in_err-expect-clause-spent : goal.factor-returns-in_err-expect-clause-spent
+factor-returns-in_err-expect-clause-spent t c = grind (arith, common_steps)
+
+pub factor-returns-in_err-expect-clause-shorter : goal.factor-returns-in_err-expect-clause-shorter
+factor-returns-in_err-expect-clause-shorter t c = grind (arith, common_steps)
+
+pub factor-returns-then-is_some-clause-spent : goal.factor-returns-then-is_some-clause-spent
+factor-returns-then-is_some-clause-spent t c = grind (arith, common_steps)
+
+pub factor-returns-then-is_some-clause-shorter : goal.factor-returns-then-is_some-clause-shorter
+factor-returns-then-is_some-clause-shorter t c = grind (arith, common_steps)
+
+pub factor-returns-in-Some-take_number-clause-spent : goal.factor-returns-in-Some-take_number-clause-spent
+factor-returns-in-Some-take_number-clause-spent t c = grind (arith, common_steps)
+
+pub factor-returns-in-Some-take_number-clause-shorter : goal.factor-returns-in-Some-take_number-clause-shorter
+factor-returns-in-Some-take_number-clause-shorter t c = grind (arith, common_steps)
+
+pub factor-returns-in_err-name-clause-spent : goal.factor-returns-in_err-name-clause-spent
+factor-returns-in_err-name-clause-spent t c = grind (arith, common_steps)
+
+pub factor-returns-in_err-name-clause-shorter : goal.factor-returns-in_err-name-clause-shorter
+factor-returns-in_err-name-clause-shorter t c = grind (arith, common_steps)
+
+pub factor-returns-clause-spent : goal.factor-returns-clause-spent
+factor-returns-clause-spent t c = grind (arith, common_steps)
+
+pub factor-returns-clause-shorter : goal.factor-returns-clause-shorter
+factor-returns-clause-shorter t c = grind (arith, common_steps)
+
+pub sum-returns-in_err-left-clause-spent : goal.sum-returns-in_err-left-clause-spent
+sum-returns-in_err-left-clause-spent t c = grind (arith, common_steps)
+
+pub sum-returns-in_err-left-clause-shorter : goal.sum-returns-in_err-left-clause-shorter
+sum-returns-in_err-left-clause-shorter t c = grind (arith, common_steps)
+
+pub sum-returns-in_err-operator-clause-spent : goal.sum-returns-in_err-operator-clause-spent
+sum-returns-in_err-operator-clause-spent t c = grind (arith, common_steps)
+
+pub sum-returns-in_err-operator-clause-shorter : goal.sum-returns-in_err-operator-clause-shorter
+sum-returns-in_err-operator-clause-shorter t c = grind (arith, common_steps)
+
+pub sum-returns-in_err-right-clause-spent : goal.sum-returns-in_err-right-clause-spent
+sum-returns-in_err-right-clause-spent t c = grind (arith, common_steps)
+
+pub sum-returns-in_err-right-clause-shorter : goal.sum-returns-in_err-right-clause-shorter
+sum-returns-in_err-right-clause-shorter t c = grind (arith, common_steps)
+
+pub sum-returns-in_err-left-2-clause-spent : goal.sum-returns-in_err-left-2-clause-spent
+sum-returns-in_err-left-2-clause-spent t c = grind (arith, common_steps)
+
+pub sum-returns-in_err-left-2-clause-shorter : goal.sum-returns-in_err-left-2-clause-shorter
+sum-returns-in_err-left-2-clause-shorter t c = grind (arith, common_steps)
+
+pub sum-returns-clause-spent : goal.sum-returns-clause-spent
+sum-returns-clause-spent t c = grind (arith, common_steps)
+
+pub sum-returns-clause-shorter : goal.sum-returns-clause-shorter
+sum-returns-clause-shorter t c = grind (arith, common_steps)
+
+pub term-returns-in_err-left-clause-spent : goal.term-returns-in_err-left-clause-spent
+term-returns-in_err-left-clause-spent t c = grind (arith, common_steps)
+
+pub term-returns-in_err-left-clause-shorter : goal.term-returns-in_err-left-clause-shorter
+term-returns-in_err-left-clause-shorter t c = grind (arith, common_steps)
+
+pub term-returns-in_err-operator-clause-spent : goal.term-returns-in_err-operator-clause-spent
+term-returns-in_err-operator-clause-spent t c = grind (arith, common_steps)
+
+pub term-returns-in_err-operator-clause-shorter : goal.term-returns-in_err-operator-clause-shorter
+term-returns-in_err-operator-clause-shorter t c = grind (arith, common_steps)
+
+pub term-returns-in_err-right-clause-spent : goal.term-returns-in_err-right-clause-spent
+term-returns-in_err-right-clause-spent t c = grind (arith, common_steps)
+
+pub term-returns-in_err-right-clause-shorter : goal.term-returns-in_err-right-clause-shorter
+term-returns-in_err-right-clause-shorter t c = grind (arith, common_steps)
+
+pub term-returns-in_err-left-2-clause-spent : goal.term-returns-in_err-left-2-clause-spent
+term-returns-in_err-left-2-clause-spent t c = grind (arith, common_steps)
+
+pub term-returns-in_err-left-2-clause-shorter : goal.term-returns-in_err-left-2-clause-shorter
+term-returns-in_err-left-2-clause-shorter t c = grind (arith, common_steps)
+
+pub term-returns-clause-spent : goal.term-returns-clause-spent
+term-returns-clause-spent t c = grind (arith, common_steps)
+
+pub term-returns-clause-shorter : goal.term-returns-clause-shorter
+term-returns-clause-shorter t c = grind (arith, common_steps)
+
+pub variable-returns-in_err-weighty-clause-spent : goal.variable-returns-in_err-weighty-clause-spent
+variable-returns-in_err-weighty-clause-spent t c = grind (arith, common_steps)
+
+pub variable-returns-in_err-weighty-clause-shorter : goal.variable-returns-in_err-weighty-clause-shorter
+variable-returns-in_err-weighty-clause-shorter t c = grind (arith, common_steps)
+
+pub variable-returns-then-is_none-clause-spent : goal.variable-returns-then-is_none-clause-spent
+variable-returns-then-is_none-clause-spent t c = grind (arith, common_steps)
+
+pub variable-returns-then-is_none-clause-shorter : goal.variable-returns-then-is_none-clause-shorter
+variable-returns-then-is_none-clause-shorter t c = grind (arith, common_steps)
+
+pub variable-returns-in_err-index-clause-spent : goal.variable-returns-in_err-index-clause-spent
+variable-returns-in_err-index-clause-spent t c = grind (arith, common_steps)
+
+pub variable-returns-in_err-index-clause-shorter : goal.variable-returns-in_err-index-clause-shorter
+variable-returns-in_err-index-clause-shorter t c = grind (arith, common_steps)
+
+pub variable-returns-in_err-expect-clause-spent : goal.variable-returns-in_err-expect-clause-spent
+variable-returns-in_err-expect-clause-spent t c = grind (arith, common_steps)
+
+pub variable-returns-in_err-expect-clause-shorter : goal.variable-returns-in_err-expect-clause-shorter
+variable-returns-in_err-expect-clause-shorter t c = grind (arith, common_steps)
+
+pub variable-returns-in_err-index-2-clause-spent : goal.variable-returns-in_err-index-2-clause-spent
+variable-returns-in_err-index-2-clause-spent t c = grind (arith, common_steps)
+
+pub variable-returns-in_err-index-2-clause-shorter : goal.variable-returns-in_err-index-2-clause-shorter
+variable-returns-in_err-index-2-clause-shorter t c = grind (arith, common_steps)
+
+pub variable-returns-clause-spent : goal.variable-returns-clause-spent
+variable-returns-clause-spent t c = grind (arith, common_steps)
+
+pub variable-returns-clause-shorter : goal.variable-returns-clause-shorter
+variable-returns-clause-shorter t c = grind (arith, common_steps)

@@ -6,6 +6,9 @@ use Rattle.source_parser.proofs.expression.+expression.Given as goal
 abbrev pub decreases-factor : goal.decreases-factor
 decreases-factor l = length l.reader.now * 3
 
+abbrev pub decreases-variable : goal.decreases-variable
+decreases-variable l = length l.reader.now * 3
+
 abbrev pub decreases-term : goal.decreases-term
 decreases-term l = length l.reader.now * 3 + 1
 

@@ -1,32 +1,34 @@
-use Rattle.std.proofs.Common.{sym, ◌∙◌, rules}
+use Rattle.std.proofs.lemmas.Grind.{common_steps}
+use Rattle.std.proofs.Common.{arith, sym, ◌∙◌, rules}
 use Rattle.std.proofs.lemmas.Int.{to_z-of_z}
 use Rattle.std.proofs.lemmas.Result.{err_from_is_err_and}
 use mir.Val.{SFits}
 use mir.Syntax.{w128}
 use Rattle.source_lexer.specs.declared.token.TokenKind.TheVariants as kind
 use Rattle.source_parser.specs.Symbols.{mark, word}
-use Rattle.source_parser.specs.Grammar.{sum, ReadsElse, ReadsOutermost, ReadsStatement, ReadsStatements}
-use Rattle.source_parser.specs.Fronts.{Anything, BeginsNoStatement, Ends, EndsChoice}
+use Rattle.source_parser.specs.Grammar.{ReadsStatement, ReadsStatements}
+use Rattle.source_parser.specs.Fronts.{Anything, BeginsNoStatement, ReadsBounds, ReadsBranches}
 use Rattle.source_parser.proofs.Sequences.{begun_front, begun_none, passes, fails, passes_next, fails_next, passes_from_next, taken, not_taken}
-use Rattle.source_parser.proofs.Sequences.{allowed_not_taken, word_taken, next_told, none_told, next_shorter}
+use Rattle.source_parser.proofs.Sequences.{allowed_not_taken, word_taken, next_told, none_told, next_shorter, closed_front, closed_none, closed_missing}
+use Rattle.source_parser.proofs.Sequences.{both_front, both_none, both_stops}
 use Rattle.source_parser.proofs.StatementParts.{PrintBehind, ReadBehind, NamedBehind}
-use Rattle.source_parser.proofs.Statements.{IfBehind, ForBehind, WhileBehind, if_, for_, while_, nesting_begins, nesting_none, name_begins, print_begins}
-use Rattle.source_parser.proofs.Statements.{read_begins, no_else_front, else_tells, listing_goes_on, listing_ends, listing_fails}
-use Rattle.source_parser.proofs.Statements.{choice_no_then, choice_no_first, choice_no_second, choice_open, choice_front}
-use Rattle.source_parser.proofs.Statements.{count_no_first, count_no_to, count_no_last, count_no_do, count_no_body, count_open, count_front}
-use Rattle.source_parser.proofs.Statements.{repetition_no_limit, repetition_no_number, repetition_no_do, repetition_no_body, repetition_open}
-use Rattle.source_parser.proofs.Statements.{repetition_front}
+use Rattle.source_parser.proofs.Statements.{IfBehind, ForBehind, WhileBehind, EndElse, EndStatements, if_, for_, while_, nesting_begins, nesting_none}
+use Rattle.source_parser.proofs.Statements.{name_begins, print_begins, read_begins, listing_goes_on, listing_ends, listing_fails}
+use Rattle.source_parser.proofs.Statements.{end_ended, end_front, end_missing, else_tells}
+use Rattle.source_parser.proofs.Statements.{ThenCondition, choice_no_condition, choice_no_branches, choice_front, else_leads}
+use Rattle.source_parser.proofs.Statements.{Counter, count_no_counter, count_no_bounds, count_no_body, count_front}
+use Rattle.source_parser.proofs.Statements.{LimitCondition, DoNumeral, repetition_no_condition, repetition_no_limit, repetition_no_body, repetition_front}
 use Rattle.source_parser.proofs.statement.+statement.Goals as goal
 
 -- ---- `if`
-pub choice-returns-in_err-expect-clause-value : goal.choice-returns-in_err-expect-clause-value
-choice-returns-in_err-expect-clause-value t c =
+pub choice-returns-in_err-condition-clause-value : goal.choice-returns-in_err-condition-clause-value
+choice-returns-in_err-condition-clause-value t c =
     let old = c.args.reader.now in
-    let failed = err_from_is_err_and c.from_residual-in_err-expect.result c.from_residual-in_err-expect.ensures.1 in
+    let failed = err_from_is_err_and c.from_residual.result c.from_residual.ensures.1 in
     rw (failed.1, failed.2) (
-    fails (IfBehind 200 c.args.depth c.args.line) Anything old c.expect.new.self c.in_err-expect.field-0.0
-    (choice_no_then 200 c.args.depth c.args.line old c.condition.new.reader c.in_ok-condition.condition c.in_ok-condition.ensures.value
-    c.in_err-expect.ensures.value.1)
+    passes (ThenCondition 200) Anything old c.choice_condition.new.reader (IfBehind 200 c.args.depth c.args.line) Anything old c.choice_condition.new.reader
+    c.in_err-condition.field-0.0 c.in_err-condition.ensures.value
+    (choice_no_condition 200 c.args.depth c.args.line old)
     )
 
 pub choice-returns-in_err-first-clause-value : goal.choice-returns-in_err-first-clause-value
@@ -34,84 +36,66 @@ choice-returns-in_err-first-clause-value t c =
     let old = c.args.reader.now in
     let failed = err_from_is_err_and c.from_residual-in_err-first.result c.from_residual-in_err-first.ensures.1 in
     rw (failed.1, failed.2) (
-    passes (ReadsStatements 200 c.args.depth) BeginsNoStatement c.expect.new.self c.statements.new.reader
-    (IfBehind 200 c.args.depth c.args.line) Anything old c.statements.new.reader c.in_err-first.field-0.0 c.in_err-first.ensures.value
-    (choice_no_first 200 c.args.depth c.args.line old c.condition.new.reader c.expect.new.self c.in_ok-condition.condition c.in_ok-expect.field-0
-    c.in_ok-condition.ensures.value c.in_ok-expect.ensures.value)
-    )
-
-pub choice-returns-in_err-second-clause-value : goal.choice-returns-in_err-second-clause-value
-choice-returns-in_err-second-clause-value t c =
-    let old = c.args.reader.now in
-    let failed = err_from_is_err_and c.from_residual-in_err-second.result c.from_residual-in_err-second.ensures.1 in
-    rw (failed.1, failed.2) (
-    passes (ReadsElse 200 c.args.depth) EndsChoice c.statements.new.reader c.otherwise.new.reader (IfBehind 200 c.args.depth c.args.line) Anything old
-    c.otherwise.new.reader c.in_err-second.field-0.0 c.in_err-second.ensures.value
-    (choice_no_second 200 c.args.depth c.args.line old c.condition.new.reader c.expect.new.self c.in_ok-condition.condition c.in_ok-expect.field-0
-    c.in_ok-condition.ensures.value c.in_ok-expect.ensures.value c.statements.new.reader c.in_ok-first.first c.in_ok-first.ensures.value)
-    )
-
-pub choice-returns-in_err-expect-2-clause-value : goal.choice-returns-in_err-expect-2-clause-value
-choice-returns-in_err-expect-2-clause-value t c =
-    let old = c.args.reader.now in
-    let failed = err_from_is_err_and c.from_residual-in_err-expect-2.result c.from_residual-in_err-expect-2.ensures.1 in
-    rw (failed.1, failed.2) (
-    fails (IfBehind 200 c.args.depth c.args.line) Anything old c.expect-2.new.self c.in_err-expect-2.field-0.0
-    (choice_open 200 c.args.depth c.args.line old c.condition.new.reader c.expect.new.self c.in_ok-condition.condition c.in_ok-expect.field-0
-    c.in_ok-condition.ensures.value c.in_ok-expect.ensures.value c.statements.new.reader c.in_ok-first.first c.in_ok-first.ensures.value
-    c.otherwise.new.reader c.in_ok-second.second c.in_ok-second.ensures.value c.in_err-expect-2.ensures.value.1)
+    passes (ReadsBranches 200 c.args.depth) Anything c.choice_condition.new.reader c.branches.new.reader
+    (IfBehind 200 c.args.depth c.args.line) Anything old c.branches.new.reader c.in_err-first.field-0.0 c.in_err-first.ensures.value
+    (choice_no_branches 200 c.args.depth c.args.line old c.choice_condition.new.reader c.in_ok-condition.condition c.in_ok-condition.ensures.value)
     )
 
 pub choice-returns-clause-value : goal.choice-returns-clause-value
 choice-returns-clause-value t c =
     let old = c.args.reader.now in
-    choice_front 200 c.args.depth c.args.line old c.condition.new.reader c.expect.new.self c.in_ok-condition.condition c.in_ok-expect.field-0
-    c.in_ok-condition.ensures.value c.in_ok-expect.ensures.value c.statements.new.reader c.in_ok-first.first c.in_ok-first.ensures.value
-    c.otherwise.new.reader c.expect-2.new.self c.in_ok-second.second c.in_ok-expect-2.field-0 c.in_ok-second.ensures.value c.in_ok-expect-2.ensures.value
+    choice_front 200 c.args.depth c.args.line old c.choice_condition.new.reader c.in_ok-condition.condition c.in_ok-condition.ensures.value
+    c.branches.new.reader (c.in_ok-first.first, c.in_ok-first.second) c.in_ok-first.ensures.value
+
+pub branches-returns-in_err-first-clause-value : goal.branches-returns-in_err-first-clause-value
+branches-returns-in_err-first-clause-value t c =
+    let old = c.args.reader.now in
+    let now = c.statements.new.reader in
+    let failed = err_from_is_err_and c.from_residual.result c.from_residual.ensures.1 in
+    rw (failed.1, failed.2) (
+    passes (ReadsStatements 200 c.args.depth) BeginsNoStatement old now (ReadsBranches 200 c.args.depth) Anything old now
+    c.in_err-first.field-0.0 c.in_err-first.ensures.value
+    (both_none (ReadsStatements 200 c.args.depth) BeginsNoStatement (EndElse 200 c.args.depth) Anything (else_leads 200 c.args.depth) old)
+    )
+
+pub branches-returns-in_err-second-clause-value : goal.branches-returns-in_err-second-clause-value
+branches-returns-in_err-second-clause-value t c =
+    let old = c.args.reader.now in
+    let now = c.statements.new.reader in
+    let new = c.otherwise.new.reader in
+    let failed = err_from_is_err_and c.from_residual-in_err-second.result c.from_residual-in_err-second.ensures.1 in
+    rw (failed.1, failed.2) (
+    passes (EndElse 200 c.args.depth) Anything now new (ReadsBranches 200 c.args.depth) Anything old new
+    c.in_err-second.field-0.0 c.in_err-second.ensures.value
+    (both_stops (ReadsStatements 200 c.args.depth) BeginsNoStatement (EndElse 200 c.args.depth) Anything (else_leads 200 c.args.depth) old now
+    c.in_ok-first.first c.in_ok-first.ensures.value)
+    )
+
+pub branches-returns-clause-value : goal.branches-returns-clause-value
+branches-returns-clause-value t c =
+    both_front (ReadsStatements 200 c.args.depth) BeginsNoStatement (EndElse 200 c.args.depth) Anything (else_leads 200 c.args.depth)
+    c.args.reader.now c.statements.new.reader c.otherwise.new.reader c.in_ok-first.first c.in_ok-second.second c.in_ok-first.ensures.value
+    c.in_ok-second.ensures.value
 
 -- ---- `for`
+pub count-returns-in_err-name-clause-value : goal.count-returns-in_err-name-clause-value
+count-returns-in_err-name-clause-value t c =
+    let old = c.args.reader.now in
+    let failed = err_from_is_err_and c.from_residual.result c.from_residual.ensures.1 in
+    rw (failed.1, failed.2) (
+    passes Counter Anything old c.counter.new.reader (ForBehind 200 c.args.depth c.args.line) Anything old c.counter.new.reader
+    c.in_err-name.field-0.0 c.in_err-name.ensures.value
+    (count_no_counter 200 c.args.depth c.args.line old)
+    )
+
 pub count-returns-in_err-first-clause-value : goal.count-returns-in_err-first-clause-value
 count-returns-in_err-first-clause-value t c =
     let old = c.args.reader.now in
     let failed = err_from_is_err_and c.from_residual-in_err-first.result c.from_residual-in_err-first.ensures.1 in
     rw (failed.1, failed.2) (
-    passes (ReadsOutermost 200) (Ends sum) c.expect.new.self c.expr.new.reader (ForBehind 200 c.args.depth c.args.line) Anything old
-    c.expr.new.reader c.in_err-first.field-0.0 c.in_err-first.ensures.value
-    (count_no_first 200 c.args.depth c.args.line old c.in_ok-name.name c.expect_name.new.self c.expect.new.self c.in_ok-expect.field-0
-    c.in_ok-name.ensures.value c.in_ok-expect.ensures.value)
-    )
-
-pub count-returns-in_err-expect-2-clause-value : goal.count-returns-in_err-expect-2-clause-value
-count-returns-in_err-expect-2-clause-value t c =
-    let old = c.args.reader.now in
-    let failed = err_from_is_err_and c.from_residual-in_err-expect-2.result c.from_residual-in_err-expect-2.ensures.1 in
-    rw (failed.1, failed.2) (
-    fails (ForBehind 200 c.args.depth c.args.line) Anything old c.expect-2.new.self c.in_err-expect-2.field-0.0
-    (count_no_to 200 c.args.depth c.args.line old c.in_ok-name.name c.expect_name.new.self c.expect.new.self c.in_ok-expect.field-0 c.in_ok-name.ensures.value
-    c.in_ok-expect.ensures.value c.expr.new.reader c.in_ok-first.first c.in_ok-first.ensures.value c.in_err-expect-2.ensures.value.1)
-    )
-
-pub count-returns-in_err-last-clause-value : goal.count-returns-in_err-last-clause-value
-count-returns-in_err-last-clause-value t c =
-    let old = c.args.reader.now in
-    let failed = err_from_is_err_and c.from_residual-in_err-last.result c.from_residual-in_err-last.ensures.1 in
-    rw (failed.1, failed.2) (
-    passes (ReadsOutermost 200) (Ends sum) c.expect-2.new.self c.expr-2.new.reader (ForBehind 200 c.args.depth c.args.line) Anything old
-    c.expr-2.new.reader c.in_err-last.field-0.0 c.in_err-last.ensures.value
-    (count_no_last 200 c.args.depth c.args.line old c.in_ok-name.name c.expect_name.new.self c.expect.new.self c.in_ok-expect.field-0
-    c.in_ok-name.ensures.value c.in_ok-expect.ensures.value c.expr.new.reader c.expect-2.new.self c.in_ok-first.first c.in_ok-expect-2.field-0
-    c.in_ok-first.ensures.value c.in_ok-expect-2.ensures.value)
-    )
-
-pub count-returns-in_err-expect-3-clause-value : goal.count-returns-in_err-expect-3-clause-value
-count-returns-in_err-expect-3-clause-value t c =
-    let old = c.args.reader.now in
-    let failed = err_from_is_err_and c.from_residual-in_err-expect-3.result c.from_residual-in_err-expect-3.ensures.1 in
-    rw (failed.1, failed.2) (
-    fails (ForBehind 200 c.args.depth c.args.line) Anything old c.expect-3.new.self c.in_err-expect-3.field-0.0
-    (count_no_do 200 c.args.depth c.args.line old c.in_ok-name.name c.expect_name.new.self c.expect.new.self c.in_ok-expect.field-0 c.in_ok-name.ensures.value
-    c.in_ok-expect.ensures.value c.expr.new.reader c.expect-2.new.self c.in_ok-first.first c.in_ok-expect-2.field-0 c.in_ok-first.ensures.value
-    c.in_ok-expect-2.ensures.value c.expr-2.new.reader c.in_ok-last.last c.in_ok-last.ensures.value c.in_err-expect-3.ensures.value.1)
+    passes (ReadsBounds 200) Anything c.counter.new.reader c.bounds.new.reader (ForBehind 200 c.args.depth c.args.line) Anything old c.bounds.new.reader
+    c.in_err-first.field-0.0 c.in_err-first.ensures.value
+    (count_no_bounds 200 c.args.depth c.args.line old c.counter.new.reader c.in_ok-name.name c.in_ok-name.ensures.value)
     )
 
 pub count-returns-in_err-body-clause-value : goal.count-returns-in_err-body-clause-value
@@ -119,57 +103,80 @@ count-returns-in_err-body-clause-value t c =
     let old = c.args.reader.now in
     let failed = err_from_is_err_and c.from_residual-in_err-body.result c.from_residual-in_err-body.ensures.1 in
     rw (failed.1, failed.2) (
-    passes (ReadsStatements 200 c.args.depth) BeginsNoStatement c.expect-3.new.self c.statements.new.reader
-    (ForBehind 200 c.args.depth c.args.line) Anything old c.statements.new.reader c.in_err-body.field-0.0 c.in_err-body.ensures.value
-    (count_no_body 200 c.args.depth c.args.line old c.in_ok-name.name c.expect_name.new.self c.expect.new.self c.in_ok-expect.field-0
-    c.in_ok-name.ensures.value c.in_ok-expect.ensures.value c.expr.new.reader c.expect-2.new.self c.in_ok-first.first c.in_ok-expect-2.field-0
-    c.in_ok-first.ensures.value c.in_ok-expect-2.ensures.value c.expr-2.new.reader c.expect-3.new.self c.in_ok-last.last c.in_ok-expect-3.field-0
-    c.in_ok-last.ensures.value c.in_ok-expect-3.ensures.value)
-    )
-
-pub count-returns-in_err-expect-4-clause-value : goal.count-returns-in_err-expect-4-clause-value
-count-returns-in_err-expect-4-clause-value t c =
-    let old = c.args.reader.now in
-    let failed = err_from_is_err_and c.from_residual-in_err-expect-4.result c.from_residual-in_err-expect-4.ensures.1 in
-    rw (failed.1, failed.2) (
-    fails (ForBehind 200 c.args.depth c.args.line) Anything old c.expect-4.new.self c.in_err-expect-4.field-0.0
-    (count_open 200 c.args.depth c.args.line old c.in_ok-name.name c.expect_name.new.self c.expect.new.self c.in_ok-expect.field-0 c.in_ok-name.ensures.value
-    c.in_ok-expect.ensures.value c.expr.new.reader c.expect-2.new.self c.in_ok-first.first c.in_ok-expect-2.field-0 c.in_ok-first.ensures.value
-    c.in_ok-expect-2.ensures.value c.expr-2.new.reader c.expect-3.new.self c.in_ok-last.last c.in_ok-expect-3.field-0 c.in_ok-last.ensures.value
-    c.in_ok-expect-3.ensures.value c.statements.new.reader c.in_ok-body.body c.in_ok-body.ensures.value c.in_err-expect-4.ensures.value.1)
+    passes (EndStatements 200 c.args.depth) Anything c.bounds.new.reader c.body.new.reader (ForBehind 200 c.args.depth c.args.line) Anything old c.body.new.reader
+    c.in_err-body.field-0.0 c.in_err-body.ensures.value
+    (count_no_body 200 c.args.depth c.args.line old c.counter.new.reader c.in_ok-name.name c.in_ok-name.ensures.value
+    c.bounds.new.reader (c.in_ok-first.first, c.in_ok-first.last) c.in_ok-first.ensures.value)
     )
 
 pub count-returns-clause-value : goal.count-returns-clause-value
 count-returns-clause-value t c =
     let old = c.args.reader.now in
-    count_front 200 c.args.depth c.args.line old c.in_ok-name.name c.expect_name.new.self c.expect.new.self c.in_ok-expect.field-0 c.in_ok-name.ensures.value
-    c.in_ok-expect.ensures.value c.expr.new.reader c.expect-2.new.self c.in_ok-first.first c.in_ok-expect-2.field-0 c.in_ok-first.ensures.value
-    c.in_ok-expect-2.ensures.value c.expr-2.new.reader c.expect-3.new.self c.in_ok-last.last c.in_ok-expect-3.field-0 c.in_ok-last.ensures.value
-    c.in_ok-expect-3.ensures.value
-    c.statements.new.reader c.expect-4.new.self c.in_ok-body.body c.in_ok-expect-4.field-0 c.in_ok-body.ensures.value c.in_ok-expect-4.ensures.value
+    count_front 200 c.args.depth c.args.line old c.counter.new.reader c.in_ok-name.name c.in_ok-name.ensures.value
+    c.bounds.new.reader (c.in_ok-first.first, c.in_ok-first.last) c.in_ok-first.ensures.value
+    c.body.new.reader c.in_ok-body.body c.in_ok-body.ensures.value
 
 -- ---- `else`
+pub otherwise-returns-in_err-expect-clause-value : goal.otherwise-returns-in_err-expect-clause-value
+otherwise-returns-in_err-expect-clause-value t c =
+    let old = c.args.reader.now in
+    let alone = not_taken kind.Else old c.take.result c.take.new.self c.take.ensures.value (sym c.if-is_none.ensures) in
+    let failed = err_from_is_err_and c.from_residual.result c.from_residual.ensures.1 in
+    rw (failed.1, failed.2) (
+    fails (EndElse 200 c.args.depth) Anything old c.expect.new.self c.in_err-expect.field-0.0
+    (end_missing 200 c.args.depth old alone.1 (rw alone.0 at c.in_err-expect.ensures.value.1))
+    )
+
 pub otherwise-returns-then-is_none-clause-value : goal.otherwise-returns-then-is_none-clause-value
 otherwise-returns-then-is_none-clause-value t c =
     let old = c.args.reader.now in
-    let missing = not_taken kind.Else old c.take.result c.take.new.self c.take.ensures.value (sym c.if-is_none.ensures) in
-    rw (missing.0, c.new.ensures) (no_else_front 200 c.args.depth old missing.1)
+    let alone = not_taken kind.Else old c.take.result c.take.new.self c.take.ensures.value (sym c.if-is_none.ensures) in
+    rw c.new.ensures (
+    end_front 200 c.args.depth old c.expect.new.self c.in_ok-expect.field-0 alone.1 (rw alone.0 at c.in_ok-expect.ensures.value)
+    )
 
 pub otherwise-returns-clause-value : goal.otherwise-returns-clause-value
 otherwise-returns-clause-value t c =
     let old = c.args.reader.now in
     let stands = taken kind.Else old c.take.result c.take.new.self c.take.ensures.value (sym c.if-is_none.ensures) in
-    else_tells 200 c.args.depth old c.take.new.self stands.0 stands.1 c.statements.result c.statements.new.reader c.statements.ensures.value
+    else_tells 200 c.args.depth old c.take.new.self stands.0 stands.1 c.body.result c.body.new.reader c.body.ensures.value
 
--- ---- `while`
-pub repetition-returns-in_err-expect-clause-value : goal.repetition-returns-in_err-expect-clause-value
-repetition-returns-in_err-expect-clause-value t c =
+-- ---- statements and `end`
+pub body-returns-in_err-found-clause-value : goal.body-returns-in_err-found-clause-value
+body-returns-in_err-found-clause-value t c =
+    let old = c.args.reader.now in
+    let failed = err_from_is_err_and c.from_residual.result c.from_residual.ensures.1 in
+    rw (failed.1, failed.2) (
+    passes (ReadsStatements 200 c.args.depth) BeginsNoStatement old c.statements.new.reader (EndStatements 200 c.args.depth) Anything old c.statements.new.reader
+    c.in_err-found.field-0.0 c.in_err-found.ensures.value
+    (closed_none (ReadsStatements 200 c.args.depth) BeginsNoStatement kind.End end_ended Anything old)
+    )
+
+pub body-returns-in_err-expect-clause-value : goal.body-returns-in_err-expect-clause-value
+body-returns-in_err-expect-clause-value t c =
     let old = c.args.reader.now in
     let failed = err_from_is_err_and c.from_residual-in_err-expect.result c.from_residual-in_err-expect.ensures.1 in
     rw (failed.1, failed.2) (
-    fails (WhileBehind 200 c.args.depth c.args.line) Anything old c.expect.new.self c.in_err-expect.field-0.0
-    (repetition_no_limit 200 c.args.depth c.args.line old c.condition.new.reader c.in_ok-condition.condition c.in_ok-condition.ensures.value
-    c.in_err-expect.ensures.value.1)
+    fails (EndStatements 200 c.args.depth) Anything old c.expect.new.self c.in_err-expect.field-0.0
+    (closed_missing (ReadsStatements 200 c.args.depth) BeginsNoStatement kind.End end_ended Anything old c.statements.new.reader c.in_ok-found.found
+    c.in_ok-found.ensures.value c.in_err-expect.ensures.value.1)
+    )
+
+pub body-returns-clause-value : goal.body-returns-clause-value
+body-returns-clause-value t c =
+    let old = c.args.reader.now in
+    closed_front (ReadsStatements 200 c.args.depth) BeginsNoStatement kind.End end_ended Anything old c.statements.new.reader c.expect.new.self c.in_ok-found.found
+    c.in_ok-expect.field-0 c.in_ok-found.ensures.value c.in_ok-expect.ensures.value
+
+-- ---- `while`
+pub repetition-returns-in_err-condition-clause-value : goal.repetition-returns-in_err-condition-clause-value
+repetition-returns-in_err-condition-clause-value t c =
+    let old = c.args.reader.now in
+    let failed = err_from_is_err_and c.from_residual.result c.from_residual.ensures.1 in
+    rw (failed.1, failed.2) (
+    passes (LimitCondition 200) Anything old c.limited_condition.new.reader (WhileBehind 200 c.args.depth c.args.line) Anything old c.limited_condition.new.reader
+    c.in_err-condition.field-0.0 c.in_err-condition.ensures.value
+    (repetition_no_condition 200 c.args.depth c.args.line old)
     )
 
 pub repetition-returns-in_err-limit-clause-value : goal.repetition-returns-in_err-limit-clause-value
@@ -177,20 +184,9 @@ repetition-returns-in_err-limit-clause-value t c =
     let old = c.args.reader.now in
     let failed = err_from_is_err_and c.from_residual-in_err-limit.result c.from_residual-in_err-limit.ensures.1 in
     rw (failed.1, failed.2) (
-    fails (WhileBehind 200 c.args.depth c.args.line) Anything old c.expect_number.new.self c.in_err-limit.field-0.0
-    (repetition_no_number 200 c.args.depth c.args.line old c.condition.new.reader c.expect.new.self c.in_ok-condition.condition c.in_ok-expect.field-0
-    c.in_ok-condition.ensures.value c.in_ok-expect.ensures.value c.in_err-limit.ensures.value)
-    )
-
-pub repetition-returns-in_err-expect-2-clause-value : goal.repetition-returns-in_err-expect-2-clause-value
-repetition-returns-in_err-expect-2-clause-value t c =
-    let old = c.args.reader.now in
-    let failed = err_from_is_err_and c.from_residual-in_err-expect-2.result c.from_residual-in_err-expect-2.ensures.1 in
-    rw (failed.1, failed.2) (
-    fails (WhileBehind 200 c.args.depth c.args.line) Anything old c.expect-2.new.self c.in_err-expect-2.field-0.0
-    (repetition_no_do 200 c.args.depth c.args.line old c.condition.new.reader c.expect.new.self c.in_ok-condition.condition c.in_ok-expect.field-0
-    c.in_ok-condition.ensures.value c.in_ok-expect.ensures.value c.expect_number.new.self c.in_ok-limit.limit c.in_ok-limit.ensures.value
-    c.in_err-expect-2.ensures.value.1)
+    passes DoNumeral Anything c.limited_condition.new.reader c.limit.new.reader (WhileBehind 200 c.args.depth c.args.line) Anything old c.limit.new.reader
+    c.in_err-limit.field-0.0 c.in_err-limit.ensures.value
+    (repetition_no_limit 200 c.args.depth c.args.line old c.limited_condition.new.reader c.in_ok-condition.condition c.in_ok-condition.ensures.value)
     )
 
 pub repetition-returns-in_err-body-clause-value : goal.repetition-returns-in_err-body-clause-value
@@ -198,23 +194,10 @@ repetition-returns-in_err-body-clause-value t c =
     let old = c.args.reader.now in
     let failed = err_from_is_err_and c.from_residual-in_err-body.result c.from_residual-in_err-body.ensures.1 in
     rw (failed.1, failed.2) (
-    passes (ReadsStatements 200 c.args.depth) BeginsNoStatement c.expect-2.new.self c.statements.new.reader
-    (WhileBehind 200 c.args.depth c.args.line) Anything old c.statements.new.reader c.in_err-body.field-0.0 c.in_err-body.ensures.value
-    (repetition_no_body 200 c.args.depth c.args.line old c.condition.new.reader c.expect.new.self c.in_ok-condition.condition c.in_ok-expect.field-0
-    c.in_ok-condition.ensures.value c.in_ok-expect.ensures.value c.expect_number.new.self c.in_ok-limit.limit c.in_ok-limit.ensures.value
-    c.expect-2.new.self c.in_ok-expect-2.field-0 c.in_ok-expect-2.ensures.value)
-    )
-
-pub repetition-returns-in_err-expect-3-clause-value : goal.repetition-returns-in_err-expect-3-clause-value
-repetition-returns-in_err-expect-3-clause-value t c =
-    let old = c.args.reader.now in
-    let failed = err_from_is_err_and c.from_residual-in_err-expect-3.result c.from_residual-in_err-expect-3.ensures.1 in
-    rw (failed.1, failed.2) (
-    fails (WhileBehind 200 c.args.depth c.args.line) Anything old c.expect-3.new.self c.in_err-expect-3.field-0.0
-    (repetition_open 200 c.args.depth c.args.line old c.condition.new.reader c.expect.new.self c.in_ok-condition.condition c.in_ok-expect.field-0
-    c.in_ok-condition.ensures.value c.in_ok-expect.ensures.value c.expect_number.new.self c.in_ok-limit.limit c.in_ok-limit.ensures.value
-    c.expect-2.new.self c.in_ok-expect-2.field-0 c.in_ok-expect-2.ensures.value c.statements.new.reader c.in_ok-body.body c.in_ok-body.ensures.value
-    c.in_err-expect-3.ensures.value.1)
+    passes (EndStatements 200 c.args.depth) Anything c.limit.new.reader c.body.new.reader (WhileBehind 200 c.args.depth c.args.line) Anything old c.body.new.reader
+    c.in_err-body.field-0.0 c.in_err-body.ensures.value
+    (repetition_no_body 200 c.args.depth c.args.line old c.limited_condition.new.reader c.in_ok-condition.condition c.in_ok-condition.ensures.value
+    c.limit.new.reader c.in_ok-limit.limit c.in_ok-limit.ensures.value)
     )
 
 pub repetition-returns-clause-value : goal.repetition-returns-clause-value
@@ -223,10 +206,9 @@ repetition-returns-clause-value t c =
     let fits : SFits w128 c.in_ok-limit.limit = search rules in
     let value = to_z-of_z w128 c.in_ok-limit.limit fits in
     rw value (
-    repetition_front 200 c.args.depth c.args.line old c.condition.new.reader c.expect.new.self c.in_ok-condition.condition c.in_ok-expect.field-0
-    c.in_ok-condition.ensures.value c.in_ok-expect.ensures.value c.expect_number.new.self c.in_ok-limit.limit c.in_ok-limit.ensures.value
-    c.expect-2.new.self c.in_ok-expect-2.field-0 c.in_ok-expect-2.ensures.value
-    c.statements.new.reader c.expect-3.new.self c.in_ok-body.body c.in_ok-expect-3.field-0 c.in_ok-body.ensures.value c.in_ok-expect-3.ensures.value
+    repetition_front 200 c.args.depth c.args.line old c.limited_condition.new.reader c.in_ok-condition.condition c.in_ok-condition.ensures.value
+    c.limit.new.reader c.in_ok-limit.limit c.in_ok-limit.ensures.value
+    c.body.new.reader c.in_ok-body.body c.in_ok-body.ensures.value
     )
 
 -- ---- a statement
@@ -380,3 +362,124 @@ statements-returns-clause-value t c =
     let told = none_told (ReadsStatement 200 c.args.depth) BeginsNoStatement c.loop-found.reader c.in_ok-next.field-0 c.statement.new.reader
     c.in_ok-next.ensures.value c.in_default.is in
     rw told.0 (listing_ends 200 c.args.depth c.args.reader.now c.loop-found.reader c.loop-found.found c.loop-found.invariant told.1)
+
+-- ---- fewer symbols are left
+pub body-returns-in_err-found-clause-shorter : goal.body-returns-in_err-found-clause-shorter
+body-returns-in_err-found-clause-shorter t c = grind (arith, common_steps)
+
+pub body-returns-in_err-expect-clause-shorter : goal.body-returns-in_err-expect-clause-shorter
+body-returns-in_err-expect-clause-shorter t c = grind (arith, common_steps)
+
+pub body-returns-clause-shorter : goal.body-returns-clause-shorter
+body-returns-clause-shorter t c = grind (arith, common_steps)
+
+pub branches-returns-in_err-first-clause-shorter : goal.branches-returns-in_err-first-clause-shorter
+branches-returns-in_err-first-clause-shorter t c = grind (arith, common_steps)
+
+pub branches-returns-in_err-second-clause-shorter : goal.branches-returns-in_err-second-clause-shorter
+branches-returns-in_err-second-clause-shorter t c = grind (arith, common_steps)
+
+pub branches-returns-clause-shorter : goal.branches-returns-clause-shorter
+branches-returns-clause-shorter t c = grind (arith, common_steps)
+
+pub choice-returns-in_err-condition-clause-shorter : goal.choice-returns-in_err-condition-clause-shorter
+choice-returns-in_err-condition-clause-shorter t c = grind (arith, common_steps)
+
+pub choice-returns-in_err-first-clause-shorter : goal.choice-returns-in_err-first-clause-shorter
+choice-returns-in_err-first-clause-shorter t c = grind (arith, common_steps)
+
+pub choice-returns-clause-shorter : goal.choice-returns-clause-shorter
+choice-returns-clause-shorter t c = grind (arith, common_steps)
+
+pub count-returns-in_err-name-clause-shorter : goal.count-returns-in_err-name-clause-shorter
+count-returns-in_err-name-clause-shorter t c = grind (arith, common_steps)
+
+pub count-returns-in_err-first-clause-shorter : goal.count-returns-in_err-first-clause-shorter
+count-returns-in_err-first-clause-shorter t c = grind (arith, common_steps)
+
+pub count-returns-in_err-body-clause-shorter : goal.count-returns-in_err-body-clause-shorter
+count-returns-in_err-body-clause-shorter t c = grind (arith, common_steps)
+
+pub count-returns-clause-shorter : goal.count-returns-clause-shorter
+count-returns-clause-shorter t c = grind (arith, common_steps)
+
+pub otherwise-returns-in_err-expect-clause-shorter : goal.otherwise-returns-in_err-expect-clause-shorter
+otherwise-returns-in_err-expect-clause-shorter t c = grind (arith, common_steps)
+
+pub otherwise-returns-then-is_none-clause-shorter : goal.otherwise-returns-then-is_none-clause-shorter
+otherwise-returns-then-is_none-clause-shorter t c = grind (arith, common_steps)
+
+pub otherwise-returns-clause-shorter : goal.otherwise-returns-clause-shorter
+otherwise-returns-clause-shorter t c = grind (arith, common_steps)
+
+pub repetition-returns-in_err-condition-clause-shorter : goal.repetition-returns-in_err-condition-clause-shorter
+repetition-returns-in_err-condition-clause-shorter t c = grind (arith, common_steps)
+
+pub repetition-returns-in_err-limit-clause-shorter : goal.repetition-returns-in_err-limit-clause-shorter
+repetition-returns-in_err-limit-clause-shorter t c = grind (arith, common_steps)
+
+pub repetition-returns-in_err-body-clause-shorter : goal.repetition-returns-in_err-body-clause-shorter
+repetition-returns-in_err-body-clause-shorter t c = grind (arith, common_steps)
+
+pub repetition-returns-clause-shorter : goal.repetition-returns-clause-shorter
+repetition-returns-clause-shorter t c = grind (arith, common_steps)
+
+pub statement-returns-in_err-print-clause-shorter : goal.statement-returns-in_err-print-clause-shorter
+statement-returns-in_err-print-clause-shorter t c = grind (arith, common_steps)
+
+pub statement-returns-in-Some-clause-shorter : goal.statement-returns-in-Some-clause-shorter
+statement-returns-in-Some-clause-shorter t c = grind (arith, common_steps)
+
+pub statement-returns-in_err-read-clause-shorter : goal.statement-returns-in_err-read-clause-shorter
+statement-returns-in_err-read-clause-shorter t c = grind (arith, common_steps)
+
+pub statement-returns-in-Some-take-clause-shorter : goal.statement-returns-in-Some-take-clause-shorter
+statement-returns-in-Some-take-clause-shorter t c = grind (arith, common_steps)
+
+pub statement-returns-in_err-line-clause-shorter : goal.statement-returns-in_err-line-clause-shorter
+statement-returns-in_err-line-clause-shorter t c = grind (arith, common_steps)
+
+pub statement-returns-in_err-choice-clause-shorter : goal.statement-returns-in_err-choice-clause-shorter
+statement-returns-in_err-choice-clause-shorter t c = grind (arith, common_steps)
+
+pub statement-returns-in-Some-2-clause-shorter : goal.statement-returns-in-Some-2-clause-shorter
+statement-returns-in-Some-2-clause-shorter t c = grind (arith, common_steps)
+
+pub statement-returns-in_err-line-2-clause-shorter : goal.statement-returns-in_err-line-2-clause-shorter
+statement-returns-in_err-line-2-clause-shorter t c = grind (arith, common_steps)
+
+pub statement-returns-in_err-count-clause-shorter : goal.statement-returns-in_err-count-clause-shorter
+statement-returns-in_err-count-clause-shorter t c = grind (arith, common_steps)
+
+pub statement-returns-in-Some-3-clause-shorter : goal.statement-returns-in-Some-3-clause-shorter
+statement-returns-in-Some-3-clause-shorter t c = grind (arith, common_steps)
+
+pub statement-returns-in_err-line-3-clause-shorter : goal.statement-returns-in_err-line-3-clause-shorter
+statement-returns-in_err-line-3-clause-shorter t c = grind (arith, common_steps)
+
+pub statement-returns-in_err-repetition-clause-shorter : goal.statement-returns-in_err-repetition-clause-shorter
+statement-returns-in_err-repetition-clause-shorter t c = grind (arith, common_steps)
+
+pub statement-returns-in-Some-4-clause-shorter : goal.statement-returns-in-Some-4-clause-shorter
+statement-returns-in-Some-4-clause-shorter t c = grind (arith, common_steps)
+
+pub statement-returns-in_err-name-clause-shorter : goal.statement-returns-in_err-name-clause-shorter
+statement-returns-in_err-name-clause-shorter t c = grind (arith, common_steps)
+
+pub statement-returns-in_err-named-in-Some-5-clause-shorter : goal.statement-returns-in_err-named-in-Some-5-clause-shorter
+statement-returns-in_err-named-in-Some-5-clause-shorter t c = grind (arith, common_steps)
+
+pub statement-returns-in_ok-named-in-Some-5-clause-shorter : goal.statement-returns-in_ok-named-in-Some-5-clause-shorter
+statement-returns-in_ok-named-in-Some-5-clause-shorter t c = grind (arith, common_steps)
+
+pub statement-returns-in-None-clause-shorter : goal.statement-returns-in-None-clause-shorter
+statement-returns-in-None-clause-shorter t c = grind (arith, common_steps)
+
+pub statements-returns-in_err-next-clause-shorter : goal.statements-returns-in_err-next-clause-shorter
+statements-returns-in_err-next-clause-shorter t c = grind (arith, common_steps)
+
+pub statements-returns-in_err-push-clause-shorter : goal.statements-returns-in_err-push-clause-shorter
+statements-returns-in_err-push-clause-shorter t c = grind (arith, common_steps)
+
+pub statements-returns-clause-shorter : goal.statements-returns-clause-shorter
+statements-returns-clause-shorter t c = grind (arith, common_steps)

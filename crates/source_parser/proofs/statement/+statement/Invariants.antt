@@ -5,22 +5,28 @@ use Rattle.source_parser.proofs.Listing.{Listing}
 use Rattle.source_parser.proofs.statement.+statement.Given as goal
 
 abbrev pub decreases-choice : goal.decreases-choice
-decreases-choice l = length l.reader.now * 3
+decreases-choice l = length l.reader.now * 4
 
 abbrev pub decreases-count : goal.decreases-count
-decreases-count l = length l.reader.now * 3
+decreases-count l = length l.reader.now * 4
 
 abbrev pub decreases-repetition : goal.decreases-repetition
-decreases-repetition l = length l.reader.now * 3
+decreases-repetition l = length l.reader.now * 4
 
 abbrev pub decreases-statement : goal.decreases-statement
-decreases-statement l = length l.reader.now * 3 + 1
+decreases-statement l = length l.reader.now * 4 + 1
 
 abbrev pub decreases-statements : goal.decreases-statements
-decreases-statements l = length l.reader.now * 3 + 2
+decreases-statements l = length l.reader.now * 4 + 2
 
 abbrev pub decreases-otherwise : goal.decreases-otherwise
-decreases-otherwise l = length l.reader.now * 3 + 3
+decreases-otherwise l = length l.reader.now * 4
+
+abbrev pub decreases-branches : goal.decreases-branches
+decreases-branches l = length l.reader.now * 4 + 3
+
+abbrev pub decreases-body : goal.decreases-body
+decreases-body l = length l.reader.now * 4 + 3
 
 abbrev pub invariant-statements-loop-found : goal.invariant-statements-loop-found
 invariant-statements-loop-found l = Listing (ReadsStatements 200 l.depth) BeginsNoStatement l.fn.reader l.found l.reader

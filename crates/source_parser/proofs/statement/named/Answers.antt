@@ -1,9 +1,8 @@
 use Rattle.std.proofs.lemmas.Result.{err_from_is_err_and}
 use Rattle.source_lexer.specs.declared.token.TokenKind.TheVariants as kind
-use Rattle.source_parser.specs.Grammar.{sum, ReadsOutermost}
-use Rattle.source_parser.specs.Fronts.{Anything, Ends}
+use Rattle.source_parser.specs.Fronts.{Anything}
 use Rattle.source_parser.proofs.Sequences.{passes, fails, taken, not_taken}
-use Rattle.source_parser.proofs.StatementParts.{NamedBehind, call_front, call_open, assign_front, assign_no_becomes, assign_no_value, assign_open}
+use Rattle.source_parser.proofs.StatementParts.{NamedBehind, SemicolonExpr, call_front, call_open, assign_front, assign_no_becomes, assign_no_value}
 use Rattle.source_parser.proofs.statement.named.Goals as goal
 
 pub returns-in_err-expect-clause-value : goal.returns-in_err-expect-clause-value
@@ -46,23 +45,10 @@ returns-in_err-value-clause-value c = λ depth.
     let behind = c.expect-2.new.self in
     let failed = err_from_is_err_and c.from_residual-in_err-value.result c.from_residual-in_err-value.ensures.1 in
     rw (failed.1, failed.2) (
-    passes (ReadsOutermost 200) (Ends sum) behind c.expr.new.reader (NamedBehind 200 depth c.args.name) Anything old c.expr.new.reader
+    passes (SemicolonExpr 200) Anything behind c.value.new.reader (NamedBehind 200 depth c.args.name) Anything old c.value.new.reader
     c.in_err-value.field-0.0 c.in_err-value.ensures.value
     (assign_no_value 200 depth c.args.name old alone.1 c.place.new.reader behind c.in_ok-place.place c.in_ok-expect-2.field-0
     (rw alone.0 at c.in_ok-place.ensures.value) c.in_ok-expect-2.ensures.value)
-    )
-
-pub returns-in_err-expect-3-clause-value : goal.returns-in_err-expect-3-clause-value
-returns-in_err-expect-3-clause-value c = λ depth.
-    let old = c.args.reader.now in
-    let alone = not_taken kind.LeftParen old c.take.result c.take.new.self c.take.ensures.value c.if-is_some.ensures in
-    let behind = c.expect-2.new.self in
-    let failed = err_from_is_err_and c.from_residual-in_err-expect-3.result c.from_residual-in_err-expect-3.ensures.1 in
-    rw (failed.1, failed.2) (
-    fails (NamedBehind 200 depth c.args.name) Anything old c.expect-3.new.self c.in_err-expect-3.field-0.0
-    (assign_open 200 depth c.args.name old alone.1 c.place.new.reader behind c.in_ok-place.place c.in_ok-expect-2.field-0
-    (rw alone.0 at c.in_ok-place.ensures.value) c.in_ok-expect-2.ensures.value
-    c.expr.new.reader c.in_ok-value.value c.in_ok-value.ensures.value c.in_err-expect-3.ensures.value.1)
     )
 
 pub returns-clause-value : goal.returns-clause-value
@@ -71,5 +57,4 @@ returns-clause-value c = λ depth.
     let alone = not_taken kind.LeftParen old c.take.result c.take.new.self c.take.ensures.value c.if-is_some.ensures in
     assign_front 200 depth c.args.name old alone.1 c.place.new.reader c.expect-2.new.self c.in_ok-place.place c.in_ok-expect-2.field-0
     (rw alone.0 at c.in_ok-place.ensures.value)
-    c.in_ok-expect-2.ensures.value c.expr.new.reader c.expect-3.new.self c.in_ok-expect-3.field-0 c.in_ok-value.value c.in_ok-value.ensures.value
-    c.in_ok-expect-3.ensures.value
+    c.in_ok-expect-2.ensures.value c.value.new.reader c.in_ok-value.value c.in_ok-value.ensures.value

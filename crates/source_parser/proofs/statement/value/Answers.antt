@@ -1,0 +1,33 @@
+use Rattle.std.proofs.lemmas.Result.{err_from_is_err_and}
+use Rattle.source_lexer.specs.declared.token.TokenKind.TheVariants as kind
+use Rattle.source_parser.specs.Grammar.{sum, ReadsOutermost}
+use Rattle.source_parser.specs.Fronts.{Anything, Ends}
+use Rattle.source_parser.proofs.Sequences.{passes, fails, closed_front, closed_none, closed_missing}
+use Rattle.source_parser.proofs.StatementParts.{SemicolonExpr, semicolon_ended}
+use Rattle.source_parser.proofs.statement.value.Goals as goal
+
+pub returns-in_err-value-clause-value : goal.returns-in_err-value-clause-value
+returns-in_err-value-clause-value c =
+    let old = c.args.reader.now in
+    let failed = err_from_is_err_and c.from_residual.result c.from_residual.ensures.1 in
+    rw (failed.1, failed.2) (
+    passes (ReadsOutermost 200) (Ends sum) old c.expr.new.reader (SemicolonExpr 200) Anything old c.expr.new.reader
+    c.in_err-value.field-0.0 c.in_err-value.ensures.value
+    (closed_none (ReadsOutermost 200) (Ends sum) kind.Semicolon semicolon_ended Anything old)
+    )
+
+pub returns-in_err-expect-clause-value : goal.returns-in_err-expect-clause-value
+returns-in_err-expect-clause-value c =
+    let old = c.args.reader.now in
+    let failed = err_from_is_err_and c.from_residual-in_err-expect.result c.from_residual-in_err-expect.ensures.1 in
+    rw (failed.1, failed.2) (
+    fails (SemicolonExpr 200) Anything old c.expect.new.self c.in_err-expect.field-0.0
+    (closed_missing (ReadsOutermost 200) (Ends sum) kind.Semicolon semicolon_ended Anything old c.expr.new.reader c.in_ok-value.value
+    c.in_ok-value.ensures.value c.in_err-expect.ensures.value.1)
+    )
+
+pub returns-clause-value : goal.returns-clause-value
+returns-clause-value c =
+    let old = c.args.reader.now in
+    closed_front (ReadsOutermost 200) (Ends sum) kind.Semicolon semicolon_ended Anything old c.expr.new.reader c.expect.new.self c.in_ok-value.value
+    c.in_ok-expect.field-0 c.in_ok-value.ensures.value c.in_ok-expect.ensures.value
