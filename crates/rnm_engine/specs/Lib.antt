@@ -11,11 +11,13 @@ pub use Rattle.command_words.specs.Words
 pub use Rattle.word_options.specs.Operands
 pub use Rattle.thin_source.specs.ThinTree
 pub use Rattle.thin_source.specs.ThinMeaning
-pub mod Sets
-pub mod Decode
 pub use Rattle.source_lexer.specs.Scan
 pub use Rattle.source_tree.specs.Meaning
 pub use Rattle.source_parser.specs.Parsed
-pub mod Refusal
+pub use Rattle.job_endings.specs.StatusNumber
+pub use Rattle.job_endings.specs.Endings
+pub use Rattle.job_endings.specs.Files
+pub use Rattle.set_commands.specs.Sets
+pub use Rattle.set_commands.specs.Decode
+pub use Rattle.source_refusals.specs.Refusal
 pub mod Answer
-pub mod StatusNumber

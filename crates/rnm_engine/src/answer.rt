@@ -1,22 +1,22 @@
 ghost use Rattle.std.specs.Prelude.{◌≡◌, ◌≢◌, ℕ, ◌<◌, ◌⊎◌, List, [], map, length, IfSome, None, Some};
 ghost use Rattle.std.specs.Option.{option_map};
 ghost use Rattle.std.specs.String.{string_bytes};
-ghost use Rattle.command_words.specs.Words.{job_of_words};
+ghost use Rattle.command_words.specs.Words.{HoldsOf, job_of_words};
 ghost use Rattle.word_options.specs.Operands.{file_name};
 ghost use Rattle.outside.specs.Faults.{Rose};
 ghost use Rattle.outside.specs.Shelf.{Held, TellsMissing};
 ghost use Rattle.outside.specs.Sink.{WroteAll, StaysTimely};
-ghost use Rattle.rnm_engine.specs.Answer.{named_files, SomeName, FetchesInOrder, IsAnswer, IsStray, Agrees, StatusLeaves};
+ghost use Rattle.job_endings.specs.Endings.{StatusLeaves};
+ghost use Rattle.job_endings.specs.Files.{Agrees, FetchesInOrder, IsStrayAmong, SomeName};
+ghost use Rattle.rnm_engine.specs.Answer.{IsAnswer, IsJobAnswer, IsStray, files_of_job, named_files};
 
-use crate::decode::decode;
-use crate::ending::finish;
 use crate::mean::mean;
 use crate::run::run;
-use crate::sets::{describe, encode};
-use crate::status::Status;
 use command_words::{FileWord, Job, job_of, name_of};
+use job_endings::{Status, finish};
 use moduli_sets::Moduli;
 use outside::{Shelf, Sink};
+use set_commands::{decode, describe, encode};
 use std::alloc::Global;
 
 /// Does the job that the words ask for, over files from a shelf: what is printed goes to the sink, each line in
@@ -53,15 +53,38 @@ pub fn rnm<S: Shelf, K: Sink>(
     ensures told { (S.state shelf.new).told ≡ (S.state shelf.old).told }
 {
     match job_of(words) {
-        Some(Job::Run { source }) => run(alloc, name_of(words, source), shelf, sink),
-        Some(Job::Decode { set, residues }) => decode(&Moduli::of(set), &residues, sink),
-        Some(Job::Encode { set, x }) => encode(&Moduli::of(set), x, sink),
-        Some(Job::Mean { source, input, .. }) => {
-            let input = name_of_any(words, input);
-            mean(alloc, name_of(words, source), input, shelf, sink)
-        }
-        Some(Job::Set { set }) => describe(&Moduli::of(set), sink),
+        Some(job) => do_job(alloc, words, &job, shelf, sink),
         None => finish(sink, b"usage\n", Status::Usage),
+    }
+}
+
+/// Does a job that the words ask for.
+fn do_job<S: Shelf, K: Sink>(
+    alloc: Global,
+    words: &[String],
+    job: &Job,
+    shelf: &mut S,
+    sink: &mut K,
+) -> Status
+    requires { HoldsOf (map string_bytes words.now) job.now }
+    ensures answer { (held : ℕ → Held) × ((n : ℕ) → Agrees (S.state shelf.old).told (held n))
+        × StatusLeaves K.took K.state sink.old (IsJobAnswer held (map string_bytes words.now) job.now)
+        (IsStrayAmong (S.state shelf.old).faults (S.state shelf.new).faults (files_of_job (map string_bytes words.now) job.now)) result sink.new }
+    ensures memory { files_of_job (map string_bytes words.now) job.now ≡ [] → result ≢ Status.NoMemory }
+    ensures unread { result ≡ Status.Unread → Rose (S.state shelf.old).faults (S.state shelf.new).faults
+        ⊎ SomeName (TellsMissing (S.state shelf.old)) (files_of_job (map string_bytes words.now) job.now) }
+    ensures fetched { FetchesInOrder S.fetched shelf.old (files_of_job (map string_bytes words.now) job.now) shelf.new }
+    ensures told { (S.state shelf.new).told ≡ (S.state shelf.old).told }
+{
+    match job {
+        Job::Run { source } => run(alloc, name_of(words, *source), shelf, sink),
+        Job::Decode { set, residues } => decode(&Moduli::of(*set), residues, sink),
+        Job::Encode { set, x } => encode(&Moduli::of(*set), *x, sink),
+        Job::Mean { source, input, .. } => {
+            let input = name_of_any(words, *input);
+            mean(alloc, name_of(words, *source), input, shelf, sink)
+        }
+        Job::Set { set } => describe(&Moduli::of(*set), sink),
     }
 }
 

@@ -1,9 +1,9 @@
 use Rattle.std.proofs.Common.{[], ◌∷◌, inr, refl}
 use Rattle.std.specs.Prelude.{codes}
 use Rattle.outside.specs.Runs.{WroteAll-one, BrokeOff-one}
-use Rattle.rnm_engine.specs.declared.status.Status.TheVariants.{Ok}
+use Rattle.job_endings.specs.declared.status.Status.TheVariants.{Ok}
 use Rattle.number_text.specs.Lines.{line}
-use Rattle.rnm_engine.proofs.Endings.{puts_after}
+use Rattle.job_endings.proofs.Endings.{puts_after}
 use Rattle.rnm_engine.proofs.run.finish_run.Goals as goal
 
 pub returns-in-Done : goal.returns-in-Done

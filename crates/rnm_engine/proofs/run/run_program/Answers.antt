@@ -1,10 +1,10 @@
 use Rattle.std.proofs.Common.{inl}
-use Rattle.rnm_engine.specs.declared.status.Status.TheVariants.{Ok}
+use Rattle.job_endings.specs.declared.status.Status.TheVariants.{Ok}
 use Rattle.thin_source.specs.ThinMeaning.{prints_of}
 use Rattle.thin_source.specs.ThinView.{program_view}
 use Rattle.number_text.specs.Lines.{print_lines}
 use Rattle.rnm_engine.specs.Answer.{last_lines}
-use Rattle.rnm_engine.proofs.Endings.{puts_after, fails_before}
+use Rattle.job_endings.proofs.Endings.{puts_after, fails_before}
 use Rattle.rnm_engine.proofs.run.run_program.Goals as goal
 
 pub returns-in-Done : goal.returns-in-Done

@@ -1,6 +1,6 @@
 use Rattle.std.proofs.Common.{inl, inr, refl}
-use Rattle.rnm_engine.specs.declared.status.Status.TheVariants.{SourceRefused}
-use Rattle.rnm_engine.specs.Refusal.{unbuilt_lines}
+use Rattle.job_endings.specs.declared.status.Status.TheVariants.{SourceRefused}
+use Rattle.source_refusals.specs.Refusal.{unbuilt_lines}
 use Rattle.rnm_engine.proofs.run.run_source.Goals as goal
 
 pub returns-in-Ok-None : goal.returns-in-Ok-None

@@ -1,0 +1,10 @@
+pub use Rattle.outside.specs.Sink
+pub use Rattle.number_theory.specs.Residue
+pub use Rattle.moduli_sets.specs.Set
+pub use Rattle.moduli_sets.specs.Moduli
+pub use Rattle.moduli_sets.specs.Vector
+pub use Rattle.number_text.specs.Lines
+pub use Rattle.redundant_decoder.specs.Verdict
+pub use Rattle.job_endings.specs.Endings
+pub mod Sets
+pub mod Decode
