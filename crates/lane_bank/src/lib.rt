@@ -2,7 +2,7 @@
 //!
 //! A bank is a lane for each channel of a set, each of its own channel type. In come micro-operations, out go
 //! the lanes' answers, one at a time: lane i performs by itself, and no other lane changes. The crate stands
-//! on `channel_lane`. The banks of the three sets are in `set_banks`, with the tests of both.
+//! on `channel_lane`. The banks of the three sets are in `set_banks`, and the tests of both in `arithmetic_rows`.
 #![tactic(auto)]
 
 mod bank;
