@@ -58,6 +58,7 @@ fn sources_run_or_are_refused(rt: HostRuntime) -> Result<(), Fail> {
         ("print 1 + 2 * 3;", "7\n"),
         ("print 97; print 0 - 97;", "97\n-97\n"),
         ("var a: 3..9; var b: -9..-3; print a; print b;", "3\n-3\n"),
+        ("var x: -97..97; print 0;", "0\n"),
     ] {
         let (status, written) = done(rt.alloc(), &RUN, source.as_bytes(), &NONE)?;
         assert_eq!(rt; status, Status::Ok, "{source}");
@@ -65,11 +66,33 @@ fn sources_run_or_are_refused(rt: HostRuntime) -> Result<(), Fail> {
         assert_eq!(rt; written.as_slice(), wanted.as_bytes(), "{source}");
     }
     for source in [
-        "print 1 div 2;",
-        "var x: 0..9; x := 10;",
-        "print z;",
-        "print 1",
+        // tokens that spell none
         "?",
+        "print 1",
+        "print 1 + ;",
+        "print ;",
+        "print 1 div 2;",
+        "x := 4",
+        "x = 4;",
+        "var x: 0 9;",
+        "var x: - - 1..2;",
+        "print 1; var x: 0..9;",
+        // names and ranges
+        "print z;",
+        "y := 1;",
+        "var x: 0..9; var x: 0..9;",
+        "var x: 1..0;",
+        "var x: -98..0;",
+        "var x: 0..98;",
+        // nodes that leave the range, of the set or of a variable
+        "print 98;",
+        "print 0 - 98;",
+        "print 50 + 48;",
+        "print 14 * 7;",
+        "print 14 * 7 - 90;",
+        "print 170141183460469231731687303715884105727;",
+        "var x: -97..97; print x + x;",
+        "var x: 0..9; x := 10;",
     ] {
         let (status, written) = done(rt.alloc(), &RUN, source.as_bytes(), &NONE)?;
         assert_eq!(rt; status, Status::SourceRefused, "{source}");

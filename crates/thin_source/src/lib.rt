@@ -14,13 +14,9 @@ ghost use Rattle.thin_source.specs.ThinMeaning.{IsThin};
 mod expressions;
 mod interval;
 mod machine;
-#[cfg(test)]
-mod machine_tests;
 mod parser;
 mod residues;
 mod rules;
-#[cfg(test)]
-mod tests;
 mod tree;
 
 pub use machine::{run, start};

@@ -9,9 +9,6 @@ ghost use Rattle.thin_source.specs.ThinView.{atom_view, product_view, sign_view,
 use super::tree::{Atom, Declaration, Product, Program, Sign, Statement, Sum};
 use crate::interval::Interval;
 
-#[cfg(test)]
-mod tests;
-
 /// The range of `pocket`.
 const POCKET: Interval = Interval { low: -97, high: 97 };
 
