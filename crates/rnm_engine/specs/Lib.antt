@@ -11,9 +11,6 @@ pub use Rattle.command_words.specs.Words
 pub use Rattle.word_options.specs.Operands
 pub use Rattle.thin_source.specs.ThinTree
 pub use Rattle.thin_source.specs.ThinMeaning
-pub use Rattle.source_lexer.specs.Scan
-pub use Rattle.source_tree.specs.Meaning
-pub use Rattle.source_parser.specs.Parsed
 pub use Rattle.job_endings.specs.StatusNumber
 pub use Rattle.job_endings.specs.Endings
 pub use Rattle.job_endings.specs.Files
