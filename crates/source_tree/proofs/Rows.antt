@@ -209,6 +209,11 @@ pub too_many_turns_trap : outcome (meaning too_many_turns []) ≡ ([], Some (kin
 too_many_turns_trap = rw execution-While (rw evaluation-Name (rw evaluation-Number (rw execution-Assign (rw
     evaluation-Binary (rw evaluation-Name (rw evaluation-Number refl))))))
 
+-- the statement, four conditions of three visits each, and three turns of five
+pub three_turns_are_taken : visits (meaning too_many_turns []) ≡ 28
+three_turns_are_taken = rw execution-While (rw evaluation-Name (rw evaluation-Number (rw execution-Assign (rw
+    evaluation-Binary (rw evaluation-Name (rw evaluation-Number refl))))))
+
 -- array bal[3]: 0..400000000;
 -- var y: 0..40;
 -- var rate: 0..1000;
