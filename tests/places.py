@@ -1,9 +1,9 @@
 #!/usr/bin/env python3
-"""Where the tokens of a text stop to be the front of a program, by the grammar alone.
+"""Where the tokens of a text stop to be a prefix of a program, by the grammar alone.
 
-A small recogniser that shares nothing with the parser: Earley's, over kinds of tokens. A list of tokens is the front
+A small recogniser that shares nothing with the parser: Earley's, over kinds of tokens. A list of tokens is a prefix
 of a program exactly where the sets of items are not empty up to its end. The limits of nesting are counted apart from
-it, by what opens and closes. It writes the table of crates/language_rows/src/places.rt:
+it, by what opens and closes. It writes the table of crates/language_tests/src/places.rt:
 
     tests/places.py --write     writes the table anew
     tests/places.py             fails where the table isn't what this program says
@@ -12,7 +12,7 @@ import re
 import sys
 from pathlib import Path
 
-TABLE = Path(__file__).resolve().parent.parent / "crates/language_rows/src/places.rt"
+TABLE = Path(__file__).resolve().parent.parent / "crates/language_tests/src/places.rt"
 
 WORDS = "var array proc do end print read if then else for to while limit div mod".split()
 TOKEN = re.compile(r"\s*([A-Za-z][A-Za-z0-9_]*|[0-9]+|:=|\.\.|<=|<>|>=|[:;,()\[\]+\-*<>=])")
@@ -111,7 +111,7 @@ def stop(tokens):
 
 
 def deep(tokens):
-    """The first token over a limit, of tokens that are the front of a program."""
+    """The first token over a limit, of tokens that are a prefix of a program."""
     blocks = []  # what each `end` will close
     weight = None  # of the outermost expression, where one is open
     brackets = 0  # open in it
@@ -119,7 +119,7 @@ def deep(tokens):
     declares = False  # between the first word of a declaration and its `;` or `do`
     for place, token in enumerate(tokens):
         if weight is None and not declares:
-            # behind these words and signs an outermost expression begins, and in the index of a place or a call
+            # after these words and signs an outermost expression begins, and in the index of a place or a call
             if token in ("print", ":=", "if", "while", "to") or token in ("[", "(") and previous == "?":
                 weight, brackets = 0, 0
         elif weight is not None:
@@ -154,7 +154,7 @@ def deep(tokens):
     return None
 
 
-def told(text):
+def reported(text):
     tokens = kinds(text)
     place = stop(tokens)
     over = deep(tokens[: len(tokens) if place is None else place])
@@ -315,13 +315,13 @@ def cases():
 
 
 def table():
-    lines = [f"{told(repeated(text))} | {text}" for text in cases()]
+    lines = [f"{reported(repeated(text))} | {text}" for text in cases()]
     body = "".join(f"{line}\\n\\\n    " for line in lines)
     return (
-        "//! Texts, and where their tokens stop to be the front of a program, nest too deep, or are one. `tests/places.py` wrote\n"
+        "//! Texts, and where their tokens stop to be a prefix of a program, nest too deep, or are one. `tests/places.py` wrote\n"
         "//! it, by a recogniser of its own. `{N TEXT}` stands for TEXT N times.\n"
         "\n"
-        "/// What is told of a text, a bar, and the text.\n"
+        "/// What is reported of a text, a bar, and the text.\n"
         f'pub const PLACES: &str = "\\\n    {body}";\n'
     )
 

@@ -2,7 +2,7 @@ ghost use Rattle.std.specs.Prelude.{◌≡◌, ◌%◌, ◌≤◌, length};
 ghost use Rattle.number_theory.specs.Residue.{AreResidues};
 ghost use Rattle.moduli_sets.specs.Moduli.{set_of};
 ghost use Rattle.mixed_radix.specs.Digits.{digits_value};
-ghost use Rattle.mixed_radix.specs.Chosen.{AreBelow, chosen};
+ghost use Rattle.mixed_radix.specs.Chosen.{AreBelow, entries_at};
 
 use mixed_radix::Chosen;
 use moduli_sets::{Digits, Moduli};
@@ -11,10 +11,10 @@ use moduli_sets::{Digits, Moduli};
 /// for each, below its modulus.
 pub fn extend(set: &Moduli, which: &Chosen, d: &Digits, p: u32) -> u32
     requires channels { AreBelow (length (set_of set.now).moduli) which.now }
-    requires digits { AreResidues (chosen which.now (set_of set.now).moduli) d.now }
+    requires digits { AreResidues (entries_at which.now (set_of set.now).moduli) d.now }
     requires positive { 1 ≤ p }
     requires fits { p ≤ 65535 }
-    ensures { result ≡ digits_value (chosen which.now (set_of set.now).moduli) d.now % p }
+    ensures { result ≡ digits_value (entries_at which.now (set_of set.now).moduli) d.now % p }
 {
     let mut rest = 0;
     for n in (0..which.len()).rev() {

@@ -9,11 +9,11 @@ use Rattle.channel_alu.specs.declared.operation.Place.TheVariants.{Reg, Scratch,
 use Rattle.channel_alu.specs.declared.operation.MicroOp.{MicroOp}
 use Rattle.channel_alu.specs.declared.operation.MicroOp.TheVariants.{Put, Copy, Add, Sub, Mul, MulAdd, Neg, Unscale, Show}
 use Rattle.fault_book.specs.Book.{Book, fault_at}
-use Rattle.channel_lane.specs.Lane.{LaneState, HasPlace, CanPerform, modulus_of, with_held, destination, computed, value_of, answer_of, lane_after, lane_after_all}
+use Rattle.channel_lane.specs.Lane.{LaneState, HasPlace, CanPerform, modulus_of, with_held, destination, plain_value, value_of, answer_of, lane_after, lane_after_all}
 
 -- a lane with one answer more
-abbrev pub counted : LaneState → LaneState
-counted lane = record lane { answers = lane.answers + 1 }
+abbrev pub one_answer_more : LaneState → LaneState
+one_answer_more lane = record lane { answers = lane.answers + 1 }
 
 -- what stays where a residue is put into a place
 answers-with_held : (lane : LaneState) (to : Place) (x : ℕ) → (with_held lane to x).answers ≡ lane.answers
@@ -49,14 +49,14 @@ words-written lane x None = refl
 words-written lane x (Some to) = words-with_held lane to x
 
 -- one operation, by where it writes
-pub lane_after-written : (book : Book) (op : MicroOp) (lane : LaneState) (to : Place) (answer : ℕ) → Some to ≡ destination op → answer ≡ answer_of book op lane → counted (with_held lane to answer) ≡ lane_after book op lane
+pub lane_after-written : (book : Book) (op : MicroOp) (lane : LaneState) (to : Place) (answer : ℕ) → Some to ≡ destination op → answer ≡ answer_of book op lane → one_answer_more (with_held lane to answer) ≡ lane_after book op lane
 unfolding lane_after
 lane_after-written book op lane to answer place same =
     ap (λ n. record (with_held lane to answer) { answers = n + 1 }) (answers-with_held lane to answer)
     ∙ ap (λ x. record (with_held lane to x) { answers = lane.answers + 1 }) same
     ∙ ap (λ p. record (option_map_or (λ t. with_held lane t (answer_of book op lane)) p lane) { answers = lane.answers + 1 }) place
 
-pub lane_after-shown : (book : Book) (op : MicroOp) (lane : LaneState) → None ≡ destination op → counted lane ≡ lane_after book op lane
+pub lane_after-shown : (book : Book) (op : MicroOp) (lane : LaneState) → None ≡ destination op → one_answer_more lane ≡ lane_after book op lane
 unfolding lane_after
 lane_after-shown book op lane place =
     ap (λ p. record (option_map_or (λ t. with_held lane t (answer_of book op lane)) p lane) { answers = lane.answers + 1 }) place
@@ -107,7 +107,7 @@ option_below m value (Some fault) positive below = mod-lt fault positive
 pub answer-below : (book : Book) (op : MicroOp) (lane : LaneState) → 0 < modulus_of lane → answer_of book op lane < modulus_of lane
 unfolding answer_of
 answer-below book op lane positive =
-    option_below (modulus_of lane) (value_of lane op) (fault_at book lane.channel lane.answers) positive (residue-below (computed lane op) (modulus_of lane) positive)
+    option_below (modulus_of lane) (value_of lane op) (fault_at book lane.channel lane.answers) positive (residue-below (plain_value lane op) (modulus_of lane) positive)
 
 pub answer_of-fault : (book : Book) (op : MicroOp) (lane : LaneState) (fault : ℕ) → Some fault ≡ fault_at book lane.channel lane.answers → fault % modulus_of lane ≡ answer_of book op lane
 unfolding answer_of

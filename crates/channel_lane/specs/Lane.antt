@@ -56,26 +56,26 @@ CanPerform lane (Show from) = HasPlace lane from
 
 -- What an Unscale by channel s makes of a residue x. `take` is what the number leaves by the modulus of s: the rest
 -- is divided by it, which is times its inverse. In s itself nothing has an inverse, and it is `give`.
-abbrev pub unscaled : LaneState → ℕ → ℕ → ℕ → ℕ → ℤ
-unscaled lane x s take give =
+abbrev pub unscaled_value : LaneState → ℕ → ℕ → ℕ → ℕ → ℤ
+unscaled_value lane x s take give =
     if s == lane.channel then pos give
     else ((pos x -ℤ pos take) *ℤ pos (inverse_of (slice_index lane.set.moduli s) (modulus_of lane)))
 
--- what an operation computes, over integers, from the residues that the lane holds
-abbrev pub computed : LaneState → MicroOp → ℤ
-computed lane (Put to value) = value
-computed lane (Copy to from) = pos (held_in lane from)
-computed lane (Add to left right) = pos (held_in lane left) +ℤ pos (held_in lane right)
-computed lane (Sub to left right) = pos (held_in lane left) -ℤ pos (held_in lane right)
-computed lane (Mul to left right) = pos (held_in lane left) *ℤ pos (held_in lane right)
-computed lane (MulAdd to left right plus) = (pos (held_in lane left) *ℤ pos (held_in lane right)) +ℤ pos (held_in lane plus)
-computed lane (Neg to from) = neg_ℤ (pos (held_in lane from))
-computed lane (Unscale to from channel take give) = unscaled lane (held_in lane from) channel take give
-computed lane (Show from) = pos (held_in lane from)
+-- what an operation computes over plain integers, from the residues that the lane holds
+abbrev pub plain_value : LaneState → MicroOp → ℤ
+plain_value lane (Put to value) = value
+plain_value lane (Copy to from) = pos (held_in lane from)
+plain_value lane (Add to left right) = pos (held_in lane left) +ℤ pos (held_in lane right)
+plain_value lane (Sub to left right) = pos (held_in lane left) -ℤ pos (held_in lane right)
+plain_value lane (Mul to left right) = pos (held_in lane left) *ℤ pos (held_in lane right)
+plain_value lane (MulAdd to left right plus) = (pos (held_in lane left) *ℤ pos (held_in lane right)) +ℤ pos (held_in lane plus)
+plain_value lane (Neg to from) = neg_ℤ (pos (held_in lane from))
+plain_value lane (Unscale to from channel take give) = unscaled_value lane (held_in lane from) channel take give
+plain_value lane (Show from) = pos (held_in lane from)
 
 -- the value of an operation in the lane
 abbrev pub value_of : LaneState → MicroOp → ℕ
-value_of lane op = residue (computed lane op) (modulus_of lane)
+value_of lane op = residue (plain_value lane op) (modulus_of lane)
 
 -- the lane's answer to an operation: its value, or where the book has a fault for it, that modulo the modulus
 unfoldable pub answer_of : Book → MicroOp → LaneState → ℕ

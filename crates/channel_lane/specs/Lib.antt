@@ -4,4 +4,4 @@ pub use Rattle.moduli_sets.specs.Set
 pub use Rattle.moduli_sets.specs.Moduli
 pub use Rattle.fault_book.specs.Book
 pub mod Lane
-pub mod Kept
+pub mod Invariant

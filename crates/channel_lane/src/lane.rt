@@ -1,6 +1,6 @@
 ghost use Rattle.std.specs.Prelude.{◌≡◌, ◌+◌, ◌-◌, ◌<◌, ◌^◌, IfOk, length, map, slice_index};
 ghost use Rattle.moduli_sets.specs.Moduli.{set_of};
-ghost use Rattle.channel_lane.specs.Lane.{CanPerform, HasPlace, answer_of, destination, held_in, lane_after, lane_at_start, modulus_of, unscaled, value_of, with_held};
+ghost use Rattle.channel_lane.specs.Lane.{CanPerform, HasPlace, answer_of, destination, held_in, lane_after, lane_at_start, modulus_of, unscaled_value, value_of, with_held};
 ghost use Rattle.number_theory.specs.Residue.{residue};
 
 use channel_alu::{Channel, MicroOp, Place};
@@ -39,7 +39,7 @@ impl<C: Channel> Model for Lane<C> {
     ghost use Rattle.std.specs.Prelude.{◌≡◌, ◌<◌, All, length, slice_index};
     ghost use Rattle.moduli_sets.specs.Moduli.{set_of};
     ghost use Rattle.channel_lane.specs.Lane.{LaneState};
-    ghost use Rattle.channel_lane.specs.Kept.{IsKept};
+    ghost use Rattle.channel_lane.specs.Invariant.{IsConsistent};
 
     ghost Value = { LaneState };
 
@@ -52,7 +52,7 @@ impl<C: Channel> Model for Lane<C> {
       answers = lane.answers;
     } };
 
-    ghost invariant = { λ lane. IsKept C.MODULUS (set_of lane.set) lane.channel lane.registers lane.scratch lane.words.items };
+    ghost invariant = { λ lane. IsConsistent C.MODULUS (set_of lane.set) lane.channel lane.registers lane.scratch lane.words.items };
 }
 
 impl<C: Channel> Lane<C> {
@@ -161,17 +161,17 @@ impl<C: Channel> Lane<C> {
                 take,
                 give,
                 ..
-            } => self.unscaled(self.held(from), usize::from(channel), take, give),
+            } => self.unscaled_residue(self.held(from), usize::from(channel), take, give),
             MicroOp::Show { from } => self.held(from),
         }
     }
 
-    /// What an Unscale by channel s makes of a residue here: the rest behind `take`, divided by the modulus of
-    /// s; in s itself `give`.
-    fn unscaled(&self, x: u32, s: usize, take: u32, give: u32) -> u32
+    /// What an Unscale by channel s makes of a residue here: the residue less `take`, divided by the modulus
+    /// of s; in s itself `give`.
+    fn unscaled_residue(&self, x: u32, s: usize, take: u32, give: u32) -> u32
         requires residue { x < C.MODULUS }
         requires channel { s < length self.now.set.moduli }
-        ensures value { result ≡ residue (unscaled self.now x s take give) (modulus_of self.now) }
+        ensures value { result ≡ residue (unscaled_value self.now x s take give) (modulus_of self.now) }
         ensures below { result < C.MODULUS }
     {
         if s == self.channel {

@@ -23,7 +23,7 @@ decode_rows = refl
 mean_row : job_of_words (codes "mean" ∷ codes "a.src" ∷ codes "-" ∷ []) ≡ Some (Mean (whole_word 1) None Desk 1000000)
 mean_row = refl
 
--- options stand before, between and behind operands
+-- options stand before, between and after operands
 options_row : job_of_words (codes "mean" ∷ codes "--steps=7" ∷ codes "a.src" ∷ codes "--set=hall" ∷ codes "b" ∷ []) ≡ Some (Mean (whole_word 2) (Some (whole_word 4)) Hall 7)
 options_row = refl
 

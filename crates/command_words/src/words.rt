@@ -64,7 +64,7 @@ fn encode_job(operands: &[String]) -> Option<Job>
     Some(Job::Encode { set, x })
 }
 
-/// `mean SOURCE INPUT`, with the options `--set=SET` and `--steps=N` before, between or behind them.
+/// `mean SOURCE INPUT`, with the options `--set=SET` and `--steps=N` before, between or after them.
 fn mean_job(words: &[String]) -> Option<Job>
     ensures value { result ≡ mean_job (map string_bytes words.now) }
     ensures holds { (command : List ℕ) → IfSome result (HoldsOf (command ∷ map string_bytes words.now)) }

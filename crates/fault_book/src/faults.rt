@@ -24,9 +24,9 @@ impl Model for Faults {
 
     ghost coded = { coded_book };
 
-    ghost use Rattle.fault_book.specs.Kept.{kept_book, AreChannels};
+    ghost use Rattle.fault_book.specs.Invariant.{book_of_entries, AreChannels};
 
-    ghost view = { λ faults. kept_book faults.entries };
+    ghost view = { λ faults. book_of_entries faults.entries };
 
     ghost invariant = { λ faults. AreChannels faults.entries };
 }

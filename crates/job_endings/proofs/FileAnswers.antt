@@ -5,7 +5,7 @@ use Rattle.std.specs.Bool.{MatchBool}
 use Rattle.std.proofs.lemmas.Grind.{common_steps}
 use Rattle.std.proofs.lemmas.List.{length-replicate}
 use Rattle.std.proofs.lemmas.Slice.Eq.{bytes_eq-Decides}
-use Rattle.outside.specs.Shelf.{Held, file_of, or_other}
+use Rattle.outside.specs.Shelf.{ShelfFiles, file_of, or_other}
 use Rattle.job_endings.specs.declared.status.Status.{Status}
 use Rattle.job_endings.specs.declared.status.Status.TheVariants.{Unread, TooLong}
 use Rattle.job_endings.specs.Files.{Agrees, NoAnswer, WithFile, file_limit, too_long_lines, unread_lines}
@@ -13,18 +13,18 @@ use Rattle.job_endings.specs.Files.{Agrees, NoAnswer, WithFile, file_limit, too_
 -- ---- what a shelf holds, or may hold where it doesn't tell
 
 -- one file and no other
-abbrev alone : List ℕ → List ℕ → Held
+abbrev alone : List ℕ → List ℕ → ShelfFiles
 alone name text = record { files = (name, text) ∷ []; others_empty = false }
 
 file_of-alone : (name text : List ℕ) → file_of (alone name text) name ≡ Some text
 file_of-alone name text =
     ap (λ b. or_other false (if b then Some text else None)) ((bytes_eq-Decides name name).1 refl)
 
-pub some_held : (told : Option Held) → (held : Held) × Agrees told held
+pub some_held : (told : Option ShelfFiles) → (held : ShelfFiles) × Agrees told held
 some_held None = (alone [] [], tt)
 some_held (Some held) = (held, refl)
 
-pub held_whole : (told : Option Held) (name text : List ℕ) → IfSome told (λ held. file_of held name ≡ Some text) → (held : Held) × Agrees told held × (file_of held name ≡ Some text)
+pub held_whole : (told : Option ShelfFiles) (name text : List ℕ) → IfSome told (λ held. file_of held name ≡ Some text) → (held : ShelfFiles) × Agrees told held × (file_of held name ≡ Some text)
 held_whole None name text h = (alone name text, tt, file_of-alone name text)
 held_whole (Some held) name text h = (held, refl, h)
 
@@ -32,12 +32,12 @@ longer_file : (limit : ℕ) (file : Option (List ℕ)) → IsSomeAnd file (λ te
 longer_file limit None h = absurd h
 longer_file limit (Some text) h = (text, refl, h)
 
-pub held_longer : (told : Option Held) (name : List ℕ) (limit : ℕ) → IfSome told (λ held. IsSomeAnd (file_of held name) (λ text. limit < length text)) → (held : Held) × Agrees told held × ((text : List ℕ) × (file_of held name ≡ Some text) × (limit < length text))
+pub held_longer : (told : Option ShelfFiles) (name : List ℕ) (limit : ℕ) → IfSome told (λ held. IsSomeAnd (file_of held name) (λ text. limit < length text)) → (held : ShelfFiles) × Agrees told held × ((text : List ℕ) × (file_of held name ≡ Some text) × (limit < length text))
 held_longer None name limit h =
     (alone name (replicate (limit + 1) 0), tt, (replicate (limit + 1) 0, file_of-alone name (replicate (limit + 1) 0), omega (arith, length-replicate {A = ℕ} (limit + 1) 0)))
 held_longer (Some held) name limit h = (held, refl, longer_file limit (file_of held name) h)
 
-pub held_missing : (told : Option Held) (name : List ℕ) → IsSomeAnd told (λ held. file_of held name ≡ None) → (held : Held) × Agrees told held × (file_of held name ≡ None)
+pub held_missing : (told : Option ShelfFiles) (name : List ℕ) → IsSomeAnd told (λ held. file_of held name ≡ None) → (held : ShelfFiles) × Agrees told held × (file_of held name ≡ None)
 held_missing None name h = absurd h
 held_missing (Some held) name h = (held, refl, h)
 

@@ -3,7 +3,7 @@ use Rattle.std.specs.Prelude.{◌≡◌, ℕ, ◌⊎◌, nat_lt, List, [], ◌�
 use Rattle.std.specs.Bool.{MatchBool}
 use Rattle.number_text.specs.Lines.{line}
 use Rattle.outside.specs.Faults.{Rose}
-use Rattle.outside.specs.Shelf.{Held}
+use Rattle.outside.specs.Shelf.{ShelfFiles}
 use Rattle.job_endings.specs.declared.status.Status.{Status}
 use Rattle.job_endings.specs.declared.status.Status.TheVariants.{Unread, TooLong}
 
@@ -28,7 +28,7 @@ abbrev pub NoAnswer : List ℕ → List (List ℕ) → Status → Type 0
 NoAnswer text pieces status = ⊥
 
 -- Where a shelf tells what it holds, it is this.
-abbrev pub Agrees : Option Held → Held → Type 0
+abbrev pub Agrees : Option ShelfFiles → ShelfFiles → Type 0
 Agrees told held = IfSome told (λ known. known ≡ held)
 
 -- a stray refusal: the shelf's count of faults rose, and the text is that for a file of this name

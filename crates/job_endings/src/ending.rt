@@ -7,9 +7,9 @@ use crate::status::Status;
 use outside::{Put, Sink};
 use std::alloc::Global;
 
-/// Puts one piece, and ends with a status.
+/// PutsEach one piece, and ends with a status.
 pub fn finish<K: Sink>(sink: &mut K, piece: &[u8], status: Status) -> Status
-    ensures { EndsPut K.took K.state sink.old (piece.now ∷ []) status result sink.new }
+    ensures { EndsPut K.puts K.state sink.old (piece.now ∷ []) status result sink.new }
 {
     match sink.put(piece) {
         Put::Done => status,
@@ -17,7 +17,7 @@ pub fn finish<K: Sink>(sink: &mut K, piece: &[u8], status: Status) -> Status
     }
 }
 
-/// Puts a line with a file's name, and ends with a status.
+/// PutsEach a line with a file's name, and ends with a status.
 pub fn finish_with_name<K: Sink>(
     alloc: Global,
     sink: &mut K,
@@ -25,7 +25,7 @@ pub fn finish_with_name<K: Sink>(
     name: &str,
     status: Status,
 ) -> Status
-    ensures { EndsWith K.took K.state sink.old (line (front.now ++ name.now) ∷ []) status result sink.new }
+    ensures { EndsWith K.puts K.state sink.old (line (front.now ++ name.now) ∷ []) status result sink.new }
 {
     match line_with_name(alloc, front, name) {
         Ok(line) => finish(sink, line.as_slice(), status),

@@ -1,6 +1,6 @@
 ghost use Rattle.std.specs.Prelude.{◌≡◌, ◌≤◌, ◌⊎◌, OnErr, OnOk, IfErr, IfOk, length};
 ghost use Rattle.outside.specs.Faults.{Rose};
-ghost use Rattle.outside.specs.Shelf.{AgreesWhole, Held, TellsMissing, file_of};
+ghost use Rattle.outside.specs.Shelf.{AgreesWhole, ShelfFiles, TellsMissing, file_of};
 ghost use Rattle.job_endings.specs.Endings.{StatusLeaves};
 ghost use Rattle.job_endings.specs.Files.{Agrees, IsStrayOf, NoAnswer, WithFile, file_limit};
 
@@ -22,8 +22,8 @@ pub fn text_of<S: Shelf, K: Sink>(
 ) -> Result<Vec<u8>, Status>
     ensures whole { IfOk result (λ text. (length text.items ≤ file_limit) × AgreesWhole (S.state shelf.old) name.now text.items) }
     ensures quiet { OnOk result (((S.state shelf.new).faults ≡ (S.state shelf.old).faults) × (sink.new ≡ sink.old)) }
-    ensures refused { IfErr result (λ status. (held : Held) × Agrees (S.state shelf.old).told held
-        × StatusLeaves K.took K.state sink.old (WithFile (file_of held name.now) name.now NoAnswer)
+    ensures refused { IfErr result (λ status. (held : ShelfFiles) × Agrees (S.state shelf.old).told held
+        × StatusLeaves K.puts K.state sink.old (WithFile (file_of held name.now) name.now NoAnswer)
         (IsStrayOf (S.state shelf.old).faults (S.state shelf.new).faults name.now) status sink.new) }
     ensures unread { IfErr result (λ status. status ≡ Status.Unread → Rose (S.state shelf.old).faults (S.state shelf.new).faults
         ⊎ TellsMissing (S.state shelf.old) name.now) }

@@ -18,7 +18,7 @@ pub fn line_with_name(alloc: Global, front: &[u8], name: &str) -> Result<Vec<u8>
     Ok(line)
 }
 
-/// Puts bytes at the end of a line that has room for them.
+/// PutsEach bytes at the end of a line that has room for them.
 pub fn append(line: &mut ArrayVec<u8, ROOM>, bytes: &[u8])
     requires { array_vec_len line.old + length bytes.now ≤ 160 }
     ensures { line.new.items ≡ line.old.items ++ bytes.now }

@@ -42,7 +42,7 @@ length-lanes_at_start set first start = length-map-range_with_len (lane_at_start
 first_of : (set : ModuliSet) (first n : ℕ) (start : List ℤ) → n ≡ suc (length set.moduli - (first + 1)) → map (lane_at_start set start) (range_with_len first n) ≡ lane_at_start set start first ∷ lanes_at_start set (first + 1) start
 first_of set first n start e = ap (λ k. map (lane_at_start set start) (range_with_len first k)) e
 
--- the first lane, and the lanes of the channels behind it
+-- the first lane, and the lanes of the channels after it
 pub lanes_at_start-cons : (set : ModuliSet) (first : ℕ) (start : List ℤ) → first < length set.moduli → lanes_at_start set first start ≡ lane_at_start set start first ∷ lanes_at_start set (first + 1) start
 lanes_at_start-cons set first start h = first_of set first (length set.moduli - first) start (omega arith)
 

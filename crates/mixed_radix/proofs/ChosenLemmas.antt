@@ -15,7 +15,7 @@ use Rattle.number_theory.specs.Coprime.{IsCoprime, ArePairwiseCoprime, product}
 use Rattle.number_theory.specs.Residue.{AreResidues}
 use Rattle.number_theory.proofs.CoprimeLemmas.{product-dvd}
 use Rattle.moduli_sets.specs.Set.{ModuliSet, IsModulus, IsModuliSet}
-use Rattle.mixed_radix.specs.Chosen.{IsChoice, AreBelow, chosen}
+use Rattle.mixed_radix.specs.Chosen.{IsChoice, AreBelow, entries_at}
 use Rattle.mixed_radix.proofs.DigitLemmas.{AreResidues-at, AreResidues-from_places}
 
 -- ---- the first channels, and all but one
@@ -78,31 +78,31 @@ AreBelow-remove count which i h =
     All-append (λ c. c < count) (take i which) (drop (suc i) which) (All-take (λ c. c < count) i which h) (All-drop (λ c. c < count) (suc i) which h)
 
 -- ---- what stands at the chosen channels
-pub get_or-chosen : (which xs : List ℕ) (k : ℕ) → k < length which → get_or (chosen which xs) k 0 ≡ get_or xs (get_or which k 0) 0
-get_or-chosen which xs k h = get_or-map (slice_index xs) which k 0 0 h
+pub get_or-entries_at : (which xs : List ℕ) (k : ℕ) → k < length which → get_or (entries_at which xs) k 0 ≡ get_or xs (get_or which k 0) 0
+get_or-entries_at which xs k h = get_or-map (slice_index xs) which k 0 0 h
 
-pub length-chosen : (which xs : List ℕ) → length (chosen which xs) ≡ length which
-length-chosen which xs = length-map which (slice_index xs)
+pub length-entries_at : (which xs : List ℕ) → length (entries_at which xs) ≡ length which
+length-entries_at which xs = length-map which (slice_index xs)
 
 pub channels_ascend : (which : List ℕ) (i j : ℕ) → IsChoice which → i < j → j < length which → get_or which i 0 < get_or which j 0
 channels_ascend which i j h order j_in = AllPairs-from_increasing which h.ascending i j 0 order j_in
 
-pub AreResidues-chosen : (which ms rs : List ℕ) → AreBelow (length ms) which → AreResidues ms rs → AreResidues (chosen which ms) (chosen which rs)
-AreResidues-chosen which ms rs below h =
-    let size = length-chosen which ms in
-    AreResidues-from_places (chosen which ms) (chosen which rs) (length-chosen which rs ∙ sym size)
+pub AreResidues-entries_at : (which ms rs : List ℕ) → AreBelow (length ms) which → AreResidues ms rs → AreResidues (entries_at which ms) (entries_at which rs)
+AreResidues-entries_at which ms rs below h =
+    let size = length-entries_at which ms in
+    AreResidues-from_places (entries_at which ms) (entries_at which rs) (length-entries_at which rs ∙ sym size)
     (λ k k_in. let k_which : k < length which = omega arith in
-    omega (arith, get_or-chosen which ms k k_which, get_or-chosen which rs k k_which, AreResidues-at ms rs (get_or which k 0) h (below k 0 k_which)))
+    omega (arith, get_or-entries_at which ms k k_which, get_or-entries_at which rs k k_which, AreResidues-at ms rs (get_or which k 0) h (below k 0 k_which)))
 
-pub ArePairwiseCoprime-chosen : (which ms : List ℕ) → IsChoice which → AreBelow (length ms) which → ArePairwiseCoprime ms → ArePairwiseCoprime (chosen which ms)
-ArePairwiseCoprime-chosen which ms choice below h i j d order j_in =
-    let size = length-chosen which ms in
+pub ArePairwiseCoprime-entries_at : (which ms : List ℕ) → IsChoice which → AreBelow (length ms) which → ArePairwiseCoprime ms → ArePairwiseCoprime (entries_at which ms)
+ArePairwiseCoprime-entries_at which ms choice below h i j d order j_in =
+    let size = length-entries_at which ms in
     let j_which : j < length which = omega arith in
     let i_which : i < length which = omega arith in
     let at_i = get_or-map (slice_index ms) which i 0 d i_which in
     let at_j = get_or-map (slice_index ms) which j 0 d j_which in
     let coprime = h (get_or which i 0) (get_or which j 0) 0 (channels_ascend which i j choice order j_which) (below j 0 j_which) in
-    subst (λ a. IsCoprime a (get_or (chosen which ms) j d)) (sym at_i)
+    subst (λ a. IsCoprime a (get_or (entries_at which ms) j d)) (sym at_i)
     (subst (λ b. IsCoprime (get_or ms (get_or which i 0) 0) b) (sym at_j) coprime)
 
 -- ---- the product of chosen moduli
@@ -118,9 +118,9 @@ product_positive (m ∷ ms) h =
     mul-pos positive (product_positive ms h.1)
 
 -- is at most the product of all
-pub product-chosen_le : (which ms : List ℕ) → IsChoice which → AreBelow (length ms) which → ArePairwiseCoprime ms → All IsModulus ms → product (chosen which ms) ≤ product ms
-product-chosen_le which ms choice below coprime moduli =
+pub product-entries_at_le : (which ms : List ℕ) → IsChoice which → AreBelow (length ms) which → ArePairwiseCoprime ms → All IsModulus ms → product (entries_at which ms) ≤ product ms
+product-entries_at_le which ms choice below coprime moduli =
     let each : All (λ c. get_or ms c 0 ∣ product ms) which =
     All-weaker (λ c. c < length ms) (λ c. get_or ms c 0 ∣ product ms) (dvd-product ms) which below in
-    let divides = product-dvd (chosen which ms) (product ms) (ArePairwiseCoprime-chosen which ms choice below coprime) (All-map (λ m. m ∣ product ms) (slice_index ms) which each) in
+    let divides = product-dvd (entries_at which ms) (product ms) (ArePairwiseCoprime-entries_at which ms choice below coprime) (All-map (λ m. m ∣ product ms) (slice_index ms) which each) in
     le_of_dvd (product_positive ms (recursion_from_All IsModulus ms moduli)) divides

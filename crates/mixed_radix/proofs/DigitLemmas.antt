@@ -145,5 +145,5 @@ order_by_digit ms xs ys k Greater h i in' same differ m =
 
 pub nat_cmp-digits_value : (ms xs ys : List ℕ) (k : ℕ) (r : Ordering) → AreResidues ms xs → AreResidues ms ys → k < length xs → drop (k + 1) xs ≡ drop (k + 1) ys → r ≢ Equal → r ≡ nat_cmp (get_or xs k 0) (get_or ys k 0) → r ≡ nat_cmp (digits_value ms xs) (digits_value ms ys)
 nat_cmp-digits_value ms xs ys k r h i in' same differ e =
-    let behind : drop (suc k) xs ≡ drop (suc k) ys = ap (λ n. drop n xs) (sym (add-one k)) ∙ same ∙ ap (λ n. drop n ys) (add-one k) in
-    nat_cmp_is _ _ r (order_by_digit ms xs ys k r h i in' behind differ (ranked _ _ r e))
+    let after : drop (suc k) xs ≡ drop (suc k) ys = ap (λ n. drop n xs) (sym (add-one k)) ∙ same ∙ ap (λ n. drop n ys) (add-one k) in
+    nat_cmp_is _ _ r (order_by_digit ms xs ys k r h i in' after differ (ranked _ _ r e))

@@ -9,8 +9,8 @@ use Rattle.number_theory.specs.Coprime.{IsInverse, product}
 use Rattle.number_theory.specs.Residue.{residue, IsNumberOf}
 use Rattle.number_theory.proofs.ResidueLemmas.{residue_same}
 use Rattle.mixed_radix.specs.Digits.{digits}
-use Rattle.mixed_radix.specs.Chosen.{chosen}
-use Rattle.mixed_radix.proofs.ChosenLemmas.{get_or-chosen, length-chosen}
+use Rattle.mixed_radix.specs.Chosen.{entries_at}
+use Rattle.mixed_radix.proofs.ChosenLemmas.{get_or-entries_at, length-entries_at}
 use Rattle.mixed_radix.proofs.DigitLemmas.{get_or-digits, div-product_more}
 
 -- a difference times y, as a difference of naturals
@@ -44,21 +44,21 @@ residue-unscaled q a m y h inverse =
 
 -- ---- what is left of a number at channel m, once the first digits are taken away
 -- before any digit
-pub left_none : (which ms rs : List ℕ) (n k : ℕ) → IsNumberOf (chosen which ms) (chosen which rs) n → k < length which → get_or rs (get_or which k 0) 0 ≡ (n / product (take 0 (chosen which ms))) % get_or ms (get_or which k 0) 0
+pub left_none : (which ms rs : List ℕ) (n k : ℕ) → IsNumberOf (entries_at which ms) (entries_at which rs) n → k < length which → get_or rs (get_or which k 0) 0 ≡ (n / product (take 0 (entries_at which ms))) % get_or ms (get_or which k 0) 0
 left_none which ms rs n k number h =
     let m = get_or ms (get_or which k 0) 0 in
-    let k_in : k < length (chosen which ms) = omega (arith, length-chosen which ms) in
-    let at_k : n % get_or (chosen which ms) k 0 ≡ get_or (chosen which rs) k 0 = sym (get_or-map (λ m. n % m) (chosen which ms) k 0 0 k_in) ∙ ap (λ xs. get_or xs k 0) number.residues in
-    sym (get_or-chosen which rs k h) ∙ sym at_k ∙ ap (λ a. n % a) (get_or-chosen which ms k h) ∙ ap (λ q. q % m) (sym (div-one n))
+    let k_in : k < length (entries_at which ms) = omega (arith, length-entries_at which ms) in
+    let at_k : n % get_or (entries_at which ms) k 0 ≡ get_or (entries_at which rs) k 0 = sym (get_or-map (λ m. n % m) (entries_at which ms) k 0 0 k_in) ∙ ap (λ xs. get_or xs k 0) number.residues in
+    sym (get_or-entries_at which rs k h) ∙ sym at_k ∙ ap (λ a. n % a) (get_or-entries_at which ms k h) ∙ ap (λ q. q % m) (sym (div-one n))
 
 -- one digit more
-pub left_more : (which ms found : List ℕ) (n k m y rest : ℕ) → k < length which → k < length found → found ≡ take (length found) (digits (chosen which ms) n) → 0 < m → IsInverse (get_or ms (get_or which k 0) 0) m y → rest ≡ (n / product (take k (chosen which ms))) % m → residue ((pos rest -ℤ pos (get_or found k 0)) *ℤ pos y) m ≡ (n / product (take (k + 1) (chosen which ms))) % m
+pub left_more : (which ms found : List ℕ) (n k m y rest : ℕ) → k < length which → k < length found → found ≡ take (length found) (digits (entries_at which ms) n) → 0 < m → IsInverse (get_or ms (get_or which k 0) 0) m y → rest ≡ (n / product (take k (entries_at which ms))) % m → residue ((pos rest -ℤ pos (get_or found k 0)) *ℤ pos y) m ≡ (n / product (take (k + 1) (entries_at which ms))) % m
 left_more which ms found n k m y rest h in' is positive inverse e =
-    let cs = chosen which ms in
+    let cs = entries_at which ms in
     let a = get_or ms (get_or which k 0) 0 in
     let q = n / product (take k cs) in
-    let k_in : k < length cs = omega (arith, length-chosen which ms) in
-    let modulus = get_or-chosen which ms k h in
+    let k_in : k < length cs = omega (arith, length-entries_at which ms) in
+    let modulus = get_or-entries_at which ms k h in
     let digit : get_or found k 0 ≡ q % a =
     ap (λ xs. get_or xs k 0) is ∙ get_or-take (length found) (digits cs n) k 0 in' ∙ get_or-digits cs n k k_in ∙ ap (λ b. q % b) modulus in
     let next : q / a ≡ n / product (take (k + 1) cs) = ap (λ b. q / b) (sym modulus) ∙ div-product_more cs n k k_in in
@@ -68,8 +68,8 @@ left_more which ms found n k m y rest h in' is positive inverse e =
     ∙ ap (λ r. r % m) next
 
 -- all earlier digits: what is left is the digit
-pub left_all : (which ms : List ℕ) (n k rest : ℕ) → k < length which → rest ≡ (n / product (take k (chosen which ms))) % get_or ms (get_or which k 0) 0 → rest ≡ get_or (digits (chosen which ms) n) k 0
+pub left_all : (which ms : List ℕ) (n k rest : ℕ) → k < length which → rest ≡ (n / product (take k (entries_at which ms))) % get_or ms (get_or which k 0) 0 → rest ≡ get_or (digits (entries_at which ms) n) k 0
 left_all which ms n k rest h e =
-    let cs = chosen which ms in
-    let k_in : k < length cs = omega (arith, length-chosen which ms) in
-    e ∙ ap (λ a. (n / product (take k cs)) % a) (sym (get_or-chosen which ms k h)) ∙ sym (get_or-digits cs n k k_in)
+    let cs = entries_at which ms in
+    let k_in : k < length cs = omega (arith, length-entries_at which ms) in
+    e ∙ ap (λ a. (n / product (take k cs)) % a) (sym (get_or-entries_at which ms k h)) ∙ sym (get_or-digits cs n k k_in)

@@ -14,7 +14,7 @@ use Rattle.number_theory.proofs.CoprimeLemmas.{ArePairwiseCoprime-take, same_fro
 use Rattle.number_theory.proofs.ResidueLemmas.{residue-below}
 use Rattle.moduli_sets.specs.Set.{ModuliSet, IsInRange, IsModulus, IsModuliSet, information, information_product, range_bound}
 use Rattle.moduli_sets.specs.Vector.{vector_of}
-use Rattle.mixed_radix.specs.Chosen.{chosen}
+use Rattle.mixed_radix.specs.Chosen.{entries_at}
 use Rattle.mixed_radix.proofs.ChosenLemmas.{info_below}
 
 residues_of_integer : (ms : List ℕ) (x : ℤ) → ByRecursion IsModulus ms → AreResidues ms (vector_of ms x)
@@ -27,10 +27,10 @@ pub AreResidues-vector_of : (ms : List ℕ) (x : ℤ) → All IsModulus ms → A
 AreResidues-vector_of ms x h = residues_of_integer ms x (recursion_from_All IsModulus ms h)
 
 -- what stands at the first channels
-pub chosen-range : (n : ℕ) (xs : List ℕ) → n ≤ length xs → chosen (range_with_len 0 n) xs ≡ take n xs
-chosen-range n xs h =
+pub entries_at-range : (n : ℕ) (xs : List ℕ) → n ≤ length xs → entries_at (range_with_len 0 n) xs ≡ take n xs
+entries_at-range n xs h =
     let size = length-map-range_with_len (slice_index xs) 0 n in
-    ext_get_or 0 (chosen (range_with_len 0 n) xs) (take n xs) (size ∙ sym (length-take-le n xs h))
+    ext_get_or 0 (entries_at (range_with_len 0 n) xs) (take n xs) (size ∙ sym (length-take-le n xs h))
     (λ k in'. let k_below : k < n = omega arith in
     get_or-map-range_with_len (slice_index xs) 0 n k k 0 k_below (omega arith) ∙ sym (get_or-take n xs k 0 k_below))
 
@@ -39,14 +39,14 @@ pub record HasInformation (set : ModuliSet) (x : ℤ) (n : ℕ) : Type 0 where
   pub small : n < information_product set
   pub same : map (residue (pos n)) (information set) ≡ map (residue x) (information set)
 
-pub HasInformation-from_number : (set : ModuliSet) (which v : List ℕ) (x : ℤ) (n : ℕ) → IsModuliSet set → which ≡ range_with_len 0 set.info → v ≡ vector_of set.moduli x → IsNumberOf (chosen which set.moduli) (chosen which v) n → HasInformation set x n
+pub HasInformation-from_number : (set : ModuliSet) (which v : List ℕ) (x : ℤ) (n : ℕ) → IsModuliSet set → which ≡ range_with_len 0 set.info → v ≡ vector_of set.moduli x → IsNumberOf (entries_at which set.moduli) (entries_at which v) n → HasInformation set x n
 HasInformation-from_number set which v x n rules is v_is number =
     let first = range_with_len 0 set.info in
     let within : set.info ≤ length set.moduli = omega (arith, info_below set rules) in
     let size = length-map set.moduli (residue x) in
-    let front : chosen which set.moduli ≡ information set = ap (λ w. chosen w set.moduli) is ∙ chosen-range set.info set.moduli within in
-    let parts : chosen which v ≡ vector_of (information set) x =
-    ap (λ w. chosen w v) is ∙ ap (chosen first) v_is ∙ chosen-range set.info (vector_of set.moduli x) (omega arith) ∙ take-map (residue x) set.info set.moduli in
+    let front : entries_at which set.moduli ≡ information set = ap (λ w. entries_at w set.moduli) is ∙ entries_at-range set.info set.moduli within in
+    let parts : entries_at which v ≡ vector_of (information set) x =
+    ap (λ w. entries_at w v) is ∙ ap (entries_at first) v_is ∙ entries_at-range set.info (vector_of set.moduli x) (omega arith) ∙ take-map (residue x) set.info set.moduli in
     record {
       small = subst (λ ms. n < product ms) front number.small;
       same = subst (λ ms. map (λ m. n % m) ms ≡ vector_of (information set) x) front (number.residues ∙ parts);

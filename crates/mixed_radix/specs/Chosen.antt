@@ -9,8 +9,8 @@ pub record IsChoice (which : List ℕ) : Type 0 where
   pub ascending : IsStrictlyIncreasing which
 
 -- what stands at the chosen channels
-abbrev pub chosen : List ℕ → List ℕ → List ℕ
-chosen which xs = map (slice_index xs) which
+abbrev pub entries_at : List ℕ → List ℕ → List ℕ
+entries_at which xs = map (slice_index xs) which
 
 -- each chosen channel is one of so many
 abbrev pub AreBelow : ℕ → List ℕ → Type 0

@@ -3,7 +3,7 @@ ghost use Rattle.number_theory.specs.Coprime.{product};
 ghost use Rattle.number_theory.specs.Residue.{residue, AreResidues, IsNumberOf};
 ghost use Rattle.moduli_sets.specs.Moduli.{set_of};
 ghost use Rattle.mixed_radix.specs.Digits.{digits, digits_value};
-ghost use Rattle.mixed_radix.specs.Chosen.{AreBelow, IsChoice, chosen};
+ghost use Rattle.mixed_radix.specs.Chosen.{AreBelow, IsChoice, entries_at};
 
 use crate::Chosen;
 use moduli_sets::{Digits, Moduli, Vector};
@@ -24,9 +24,9 @@ pub fn digits_of(set: &Moduli, which: &Chosen, v: &Vector) -> Digits
     requires residues { AreResidues (set_of set.now).moduli v.now }
     requires channels { AreBelow (length (set_of set.now).moduli) which.now }
     ensures number { (n : ℕ)
-        × IsNumberOf (chosen which.now (set_of set.now).moduli) (chosen which.now v.now) n
-        × (result ≡ digits (chosen which.now (set_of set.now).moduli) n) }
-    ensures are { AreResidues (chosen which.now (set_of set.now).moduli) result }
+        × IsNumberOf (entries_at which.now (set_of set.now).moduli) (entries_at which.now v.now) n
+        × (result ≡ digits (entries_at which.now (set_of set.now).moduli) n) }
+    ensures are { AreResidues (entries_at which.now (set_of set.now).moduli) result }
 {
     set.rules();
     one_number_has_the_residues();
@@ -37,22 +37,22 @@ pub fn digits_of(set: &Moduli, which: &Chosen, v: &Vector) -> Digits
     digits
 }
 
-/// The digit behind those that are found: what is left of the residue when they are taken away, one after another.
+/// The digit after those that are found: what is left of the residue when they are taken away, one after another.
 fn digit(set: &Moduli, which: &Chosen, v: &Vector, found: &Digits) -> u32
     requires residues { AreResidues (set_of set.now).moduli v.now }
     requires channels { AreBelow (length (set_of set.now).moduli) which.now }
     requires choice { IsChoice which.now }
     requires more { length found.now < length which.now }
     ensures { (n : ℕ)
-        → IsNumberOf (chosen which.now (set_of set.now).moduli) (chosen which.now v.now) n
-        → found.now ≡ take (length found.now) (digits (chosen which.now (set_of set.now).moduli) n)
-        → result ≡ slice_index (digits (chosen which.now (set_of set.now).moduli) n) (length found.now) }
+        → IsNumberOf (entries_at which.now (set_of set.now).moduli) (entries_at which.now v.now) n
+        → found.now ≡ take (length found.now) (digits (entries_at which.now (set_of set.now).moduli) n)
+        → result ≡ slice_index (digits (entries_at which.now (set_of set.now).moduli) n) (length found.now) }
 {
     let channel = which.at(found.len());
     let modulus = set.modulus(channel);
     let mut rest = v.at(channel);
     for n in 0..found.len() {
-        rest = unscaled(
+        rest = unscaled_residue(
             rest,
             found.at(n),
             set.inverse(which.at(n), channel),
@@ -63,7 +63,7 @@ fn digit(set: &Moduli, which: &Chosen, v: &Vector, found: &Digits) -> u32
 }
 
 /// (a - digit) * inverse modulo the modulus.
-fn unscaled(a: u32, digit: u32, inverse: u32, modulus: u32) -> u32
+fn unscaled_residue(a: u32, digit: u32, inverse: u32, modulus: u32) -> u32
     requires fits { modulus ≤ 65535 }
     requires a { a < modulus }
     requires inverse { inverse < modulus }
@@ -76,8 +76,8 @@ fn unscaled(a: u32, digit: u32, inverse: u32, modulus: u32) -> u32
 /// The number that digits write, to the chosen moduli. There is one digit for each, below its modulus.
 pub fn value_of(set: &Moduli, which: &Chosen, d: &Digits) -> u128
     requires channels { AreBelow (length (set_of set.now).moduli) which.now }
-    requires digits { AreResidues (chosen which.now (set_of set.now).moduli) d.now }
-    ensures { result ≡ digits_value (chosen which.now (set_of set.now).moduli) d.now }
+    requires digits { AreResidues (entries_at which.now (set_of set.now).moduli) d.now }
+    ensures { result ≡ digits_value (entries_at which.now (set_of set.now).moduli) d.now }
 {
     set.rules();
     let mut value: u128 = 0;

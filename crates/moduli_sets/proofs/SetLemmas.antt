@@ -1,4 +1,4 @@
--- What the test on the kept numbers says of the set.
+-- What the test on the numbers of a value of `Moduli` says of the set.
 use Rattle.std.proofs.Common.{◌≡◌, ◌≢◌, ℕ, zero, suc, ◌+◌, ◌*◌, ◌/◌, ◌%◌, ◌^◌, ◌<◌, ◌≤◌, Bool, true, false, ◌&&◌, ◌||◌, ◌==◌, nat_lt, nat_le, List, [], ◌∷◌, length, slice_index, slice_index_or, All, sym, ap, ◌∙◌, subst, arith, length-drop, inl, inr, ℤ, pos, negsuc}
 use Rattle.std.specs.List.{list_all, AllByRecursion as ByRecursion}
 use Rattle.std.proofs.lemmas.Bool.{and_parts, eqb-true, ne_eqb, cases_eq, false≢true}
@@ -8,7 +8,7 @@ use borrow.Author.Tests.{ltb-true, leb-true}
 use Rattle.number_theory.specs.Coprime.{inverse_of, IsCoprime, IsInverse, ArePairwiseCoprime, product}
 use Rattle.number_theory.proofs.CoprimeLemmas.{IsCoprime-from_inverse, inverse_of-is}
 use Rattle.moduli_sets.specs.declared.moduli.Moduli.{Moduli}
-use Rattle.moduli_sets.specs.Kept.{each_below, fits_16_bits, meets_rules, is_inverse, has_inverses, is_natural, is_kept}
+use Rattle.moduli_sets.specs.Invariant.{each_below, is_modulus_size, meets_rules, is_inverse, has_inverses, is_natural, is_consistent}
 use Rattle.moduli_sets.specs.Moduli.{set_of}
 use Rattle.moduli_sets.specs.Set.{ModuliSet, IsModulus, IsModuliSet, information, redundant, information_product, radius, range_bound}
 
@@ -28,7 +28,7 @@ list_all-true test P says (x ∷ xs) e =
 All-from_test : (test : ℕ → Bool) (P : ℕ → Type 0) → ((x : ℕ) → test x ≡ true → P x) → (xs : List ℕ) → list_all test xs ≡ true → All P xs
 All-from_test test P says xs e = All-from_recursion P xs (list_all-true test P says xs e)
 
-IsModulus-from_test : (m : ℕ) → fits_16_bits m ≡ true → IsModulus m
+IsModulus-from_test : (m : ℕ) → is_modulus_size m ≡ true → IsModulus m
 IsModulus-from_test m e =
     let parts = and_parts (nat_le 2 m) (nat_le m 65535) e in
     record { at_least_two = leb-true 2 m parts.0; fits = leb-true m 65535 parts.1 }
@@ -64,7 +64,7 @@ IsModuliSet-from_tests set e coprime =
     let sum = (length set.moduli == set.info + 3) in
     let four = nat_le 4 (length set.moduli) in
     let twelve = nat_le (length set.moduli) 12 in
-    let fit = list_all fits_16_bits set.moduli in
+    let fit = list_all is_modulus_size set.moduli in
     let above = λ (r : ℕ). list_all (λ m. nat_lt m r) (information set) in
     let large = list_all above (redundant set) in
     let product_fits = nat_lt (product set.moduli) (2 ^ 127) in
@@ -82,7 +82,7 @@ IsModuliSet-from_tests set e coprime =
       at_most_twelve = leb-true _ 12 t.1;
       odd = omega arith;
       corrects = omega arith;
-      moduli = All-from_test fits_16_bits IsModulus IsModulus-from_test set.moduli m.1;
+      moduli = All-from_test is_modulus_size IsModulus IsModulus-from_test set.moduli m.1;
       coprime = coprime;
       larger = All-from_test above (λ r. All (λ m. m < r) (information set)) (λ r. All-from_test (λ m. nat_lt m r) (λ m. m < r) (λ m. ltb-true m r) (information set)) (redundant set) l.1;
       fits = ltb-true _ _ f.1;
@@ -95,44 +95,44 @@ pos-from_test : (z : ℤ) (n : ℕ) → is_natural z n ≡ true → z ≡ pos n
 pos-from_test (pos m) n e = ap pos (eqb-true m n e)
 pos-from_test (negsuc m) n e = cc
 
-kept_parts : (kept : Moduli) → (kept.count ≤ length kept.moduli) × (meets_rules (set_of kept) ≡ true) × (has_inverses (set_of kept).moduli kept.inverses ≡ true) × (kept.bound ≡ pos (range_bound (set_of kept)))
-unfolding is_kept
-kept_parts kept =
-    let short = nat_le kept.count (length kept.moduli) in
-    let rules = meets_rules (set_of kept) in
-    let inverses = has_inverses (set_of kept).moduli kept.inverses in
-    let b = and_parts (short && rules && inverses) (is_natural kept.bound (range_bound (set_of kept))) kept.kept in
+consistent_parts : (value : Moduli) → (value.count ≤ length value.moduli) × (meets_rules (set_of value) ≡ true) × (has_inverses (set_of value).moduli value.inverses ≡ true) × (value.bound ≡ pos (range_bound (set_of value)))
+unfolding is_consistent
+consistent_parts value =
+    let short = nat_le value.count (length value.moduli) in
+    let rules = meets_rules (set_of value) in
+    let inverses = has_inverses (set_of value).moduli value.inverses in
+    let b = and_parts (short && rules && inverses) (is_natural value.bound (range_bound (set_of value))) value.consistent in
     let i = and_parts (short && rules) inverses b.0 in
     let r = and_parts short rules i.0 in
     (leb-true _ _ r.0, r.1, i.1, pos-from_test _ _ b.1)
 
 -- each value is a set
-pub IsModuliSet-of : (kept : Moduli) → IsModuliSet (set_of kept)
-IsModuliSet-of kept =
-    let parts = kept_parts kept in
-    (IsModuliSet-from_tests (set_of kept) parts.1 (ArePairwiseCoprime-from_inverses (set_of kept).moduli kept.inverses parts.2)).0
+pub IsModuliSet-of : (value : Moduli) → IsModuliSet (set_of value)
+IsModuliSet-of value =
+    let parts = consistent_parts value in
+    (IsModuliSet-from_tests (set_of value) parts.1 (ArePairwiseCoprime-from_inverses (set_of value).moduli value.inverses parts.2)).0
 
 -- and corrects one wrong residue
-pub radius-of : (kept : Moduli) → radius (set_of kept) ≡ 1
-radius-of kept =
-    let parts = kept_parts kept in
-    (IsModuliSet-from_tests (set_of kept) parts.1 (ArePairwiseCoprime-from_inverses (set_of kept).moduli kept.inverses parts.2)).1
+pub radius-of : (value : Moduli) → radius (set_of value) ≡ 1
+radius-of value =
+    let parts = consistent_parts value in
+    (IsModuliSet-from_tests (set_of value) parts.1 (ArePairwiseCoprime-from_inverses (set_of value).moduli value.inverses parts.2)).1
 
-pub count-of : (kept : Moduli) → length (set_of kept).moduli ≡ kept.count
-count-of kept = length-take-le kept.count kept.moduli (kept_parts kept).0
+pub count-of : (value : Moduli) → length (set_of value).moduli ≡ value.count
+count-of value = length-take-le value.count value.moduli (consistent_parts value).0
 
-pub bound-of : (kept : Moduli) → kept.bound ≡ pos (range_bound (set_of kept))
-bound-of kept = (kept_parts kept).3
+pub bound-of : (value : Moduli) → value.bound ≡ pos (range_bound (set_of value))
+bound-of value = (consistent_parts value).3
 
-pub IsInverse-of : (kept : Moduli) (s i : ℕ) → s ≢ i → s < length (set_of kept).moduli → i < length (set_of kept).moduli → IsInverse (slice_index (set_of kept).moduli s) (slice_index (set_of kept).moduli i) (slice_index (slice_index_or kept.inverses s []) i)
-IsInverse-of kept s i = has_inverses-at (set_of kept).moduli kept.inverses s i (kept_parts kept).2
+pub IsInverse-of : (value : Moduli) (s i : ℕ) → s ≢ i → s < length (set_of value).moduli → i < length (set_of value).moduli → IsInverse (slice_index (set_of value).moduli s) (slice_index (set_of value).moduli i) (slice_index (slice_index_or value.inverses s []) i)
+IsInverse-of value s i = has_inverses-at (set_of value).moduli value.inverses s i (consistent_parts value).2
 
-pub inverse_of-kept : (kept : Moduli) (s i : ℕ) → s ≢ i → s < length (set_of kept).moduli → i < length (set_of kept).moduli → slice_index (slice_index_or kept.inverses s []) i ≡ inverse_of (slice_index (set_of kept).moduli s) (slice_index (set_of kept).moduli i)
-inverse_of-kept kept s i apart s_in i_in = sym (inverse_of-is _ _ _ (IsInverse-of kept s i apart s_in i_in))
+pub inverse_of-table : (value : Moduli) (s i : ℕ) → s ≢ i → s < length (set_of value).moduli → i < length (set_of value).moduli → slice_index (slice_index_or value.inverses s []) i ≡ inverse_of (slice_index (set_of value).moduli s) (slice_index (set_of value).moduli i)
+inverse_of-table value s i apart s_in i_in = sym (inverse_of-is _ _ _ (IsInverse-of value s i apart s_in i_in))
 
--- the numbers of the set are those that are kept
-pub modulus-of : (kept : Moduli) (i : ℕ) → i < length (set_of kept).moduli → slice_index (set_of kept).moduli i ≡ slice_index kept.moduli i
-modulus-of kept i h = get_or-take kept.count kept.moduli i 0 (subst (λ n. i < n) (count-of kept) h)
+-- the moduli of the set are those of the value
+pub modulus-of : (value : Moduli) (i : ℕ) → i < length (set_of value).moduli → slice_index (set_of value).moduli i ≡ slice_index value.moduli i
+modulus-of value i h = get_or-take value.count value.moduli i 0 (subst (λ n. i < n) (count-of value) h)
 
-pub IsModulus-of : (kept : Moduli) (i : ℕ) → i < length (set_of kept).moduli → IsModulus (slice_index kept.moduli i)
-IsModulus-of kept i h = subst IsModulus (modulus-of kept i h) ((IsModuliSet-of kept).moduli i 0 h)
+pub IsModulus-of : (value : Moduli) (i : ℕ) → i < length (set_of value).moduli → IsModulus (slice_index value.moduli i)
+IsModulus-of value i h = subst IsModulus (modulus-of value i h) ((IsModuliSet-of value).moduli i 0 h)

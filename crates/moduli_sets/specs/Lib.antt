@@ -1,4 +1,4 @@
-pub mod Kept
+pub mod Invariant
 pub mod Moduli
 pub mod Name
 pub mod Set

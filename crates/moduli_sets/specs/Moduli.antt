@@ -4,4 +4,4 @@ use Rattle.moduli_sets.specs.declared.moduli.Moduli.{Moduli}
 use Rattle.moduli_sets.specs.Set.{ModuliSet}
 
 abbrev pub set_of : Moduli → ModuliSet
-set_of kept = record { moduli = take kept.count kept.moduli; info = kept.info }
+set_of value = record { moduli = take value.count value.moduli; info = value.info }

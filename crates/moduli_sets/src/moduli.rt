@@ -1,7 +1,7 @@
 ghost use Rattle.std.specs.Prelude.{◌≡◌, ◌≢◌, ◌<◌, ℤ, pos, length, slice_index, true};
 ghost use Rattle.number_theory.specs.Coprime.{IsInverse, inverse_of};
 ghost use Rattle.number_theory.specs.Residue.{residue};
-ghost use Rattle.moduli_sets.specs.Kept.{is_kept};
+ghost use Rattle.moduli_sets.specs.Invariant.{is_consistent};
 ghost use Rattle.moduli_sets.specs.Set.{IsInRange, IsModulus, IsModuliSet, information, radius, range_bound};
 ghost use Rattle.moduli_sets.specs.Vector.{vector_of};
 
@@ -20,7 +20,7 @@ pub struct Moduli {
     /// Row s has at i the inverse of modulus s modulo modulus i.
     inverses: [[u32; ROOM]; ROOM],
     bound: i128,
-    ghost kept: { is_kept moduli count info inverses bound ≡ true },
+    ghost consistent: { is_consistent moduli count info inverses bound ≡ true },
 }
 
 impl Moduli {
@@ -39,7 +39,7 @@ impl Moduli {
         }
     }
 
-    #[tactic(auto, unfolding(crate::specs::Kept::is_kept))]
+    #[tactic(auto, unfolding(crate::specs::Invariant::is_consistent))]
     fn pocket() -> Moduli
         ensures { set_of result ≡ set_of_name Pocket }
     {
@@ -65,7 +65,7 @@ impl Moduli {
         }
     }
 
-    #[tactic(auto, unfolding(crate::specs::Kept::is_kept))]
+    #[tactic(auto, unfolding(crate::specs::Invariant::is_consistent))]
     fn desk() -> Moduli
         ensures { set_of result ≡ set_of_name Desk }
     {
@@ -91,7 +91,7 @@ impl Moduli {
         }
     }
 
-    #[tactic(auto, unfolding(crate::specs::Kept::is_kept))]
+    #[tactic(auto, unfolding(crate::specs::Invariant::is_consistent))]
     fn hall() -> Moduli
         ensures { set_of result ≡ set_of_name Hall }
     {

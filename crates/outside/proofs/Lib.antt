@@ -1,2 +1,3 @@
-pub mod Missing
+mod Missing
+pub mod Runs
 pub mod Streams

@@ -2,5 +2,4 @@ pub mod Faults
 pub mod Shelf
 pub mod Sink
 pub mod Memory
-pub mod Runs
 pub mod Streams

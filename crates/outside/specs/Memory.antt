@@ -1,8 +1,9 @@
 -- The forms that keep all in memory, and exactly what each call does to them.
 use Rattle.std.specs.Prelude.{◌≡◌, ℕ, ◌-◌, ◌<◌, ◌≤◌, ◌==◌, ◌&&◌, ◌||◌, ◌⊎◌, min, Bool, false, not, List, [], ◌∷◌, ◌++◌, length, take, nat_lt, nat_le, Option, Some, None, is_none, unwrap_or, MatchBool, if◌then◌else◌}
 use Rattle.std.specs.List.{list_any}
+use Rattle.plain_text.specs.Lookup.{Named, lookup}
 use Rattle.outside.specs.Faults.{next_count}
-use Rattle.outside.specs.Shelf.{ShelfState, first_named}
+use Rattle.outside.specs.Shelf.{ShelfState}
 use Rattle.outside.specs.Sink.{SinkState}
 use Rattle.outside.specs.declared.shelf.Fetch.{Fetch}
 use Rattle.outside.specs.declared.shelf.Fetch.TheVariants.{Whole, TooLong, Failed as FetchFailed, NoMemory}
@@ -12,9 +13,9 @@ use Rattle.outside.specs.declared.sink.Put.TheVariants.{Done, Failed as PutFaile
 -- a shelf in memory: its files, the numbers of the fetches that are to fail, how many fetches were made, and
 -- its count of faults
 pub record MemoryFiles : Type 0 where
-  pub files : List (List ℕ × List ℕ)
+  pub files : Named (List ℕ)
   pub failing : List ℕ
-  pub fetches : ℕ
+  pub fetch_count : ℕ
   pub faults : ℕ
 
 -- it tells its files, and other names have none
@@ -23,7 +24,7 @@ shelf_state shelf = record { faults = shelf.faults; told = Some (record { files 
 
 -- whether the next fetch is to fail, where its name has a file
 abbrev pub next_fails : MemoryFiles → Bool
-next_fails shelf = list_any (λ number. number == shelf.fetches) shelf.failing
+next_fails shelf = list_any (λ number. number == shelf.fetch_count) shelf.failing
 
 -- what copying a file up to a limit into a buffer of this capacity leaves there, by its answer
 abbrev pub CopyLeaves : List ℕ → ℕ → ℕ → Fetch → List ℕ → Type 0
@@ -44,7 +45,7 @@ faults_after_fetch shelf (Some bytes) = if next_fails shelf then next_count shel
 
 -- the shelf after a fetch of the name
 abbrev pub after_fetch : MemoryFiles → List ℕ → MemoryFiles
-after_fetch shelf name = record shelf { fetches = next_count shelf.fetches; faults = faults_after_fetch shelf (first_named name shelf.files) }
+after_fetch shelf name = record shelf { fetch_count = next_count shelf.fetch_count; faults = faults_after_fetch shelf (lookup name shelf.files) }
 
 -- a sink in memory: its bytes, how many it has room for, the puts that are to fail with how many bytes each
 -- takes before, how many puts were made, its count of faults, and whether a put came after a fault
@@ -52,7 +53,7 @@ pub record MemoryBytes : Type 0 where
   pub bytes : List ℕ
   pub room : ℕ
   pub failing : List (ℕ × ℕ)
-  pub puts : ℕ
+  pub put_count : ℕ
   pub faults : ℕ
   pub late : Bool
 
@@ -71,11 +72,11 @@ room_left sink = sink.room - length sink.bytes
 
 -- how many of the bytes a put takes
 abbrev pub taken : MemoryBytes → List ℕ → ℕ
-taken sink bytes = min (unwrap_or (listed sink.puts sink.failing) (length bytes)) (min (length bytes) (room_left sink))
+taken sink bytes = min (unwrap_or (listed sink.put_count sink.failing) (length bytes)) (min (length bytes) (room_left sink))
 
 -- how a put answers: Done where it isn't listed and all fits
 abbrev pub put_answer : MemoryBytes → List ℕ → Put
-put_answer sink bytes = if is_none (listed sink.puts sink.failing) && nat_le (length bytes) (room_left sink) then Done else PutFailed
+put_answer sink bytes = if is_none (listed sink.put_count sink.failing) && nat_le (length bytes) (room_left sink) then Done else PutFailed
 
 -- the count of faults after a put, by its answer
 abbrev pub faults_after_put : ℕ → Put → ℕ
@@ -84,4 +85,4 @@ faults_after_put faults PutFailed = next_count faults
 
 -- the sink after a put of the bytes
 abbrev pub after_put : MemoryBytes → List ℕ → MemoryBytes
-after_put sink bytes = record sink { bytes = sink.bytes ++ take (taken sink bytes) bytes; puts = next_count sink.puts; faults = faults_after_put sink.faults (put_answer sink bytes); late = sink.late || not (sink.faults == 0) }
+after_put sink bytes = record sink { bytes = sink.bytes ++ take (taken sink bytes) bytes; put_count = next_count sink.put_count; faults = faults_after_put sink.faults (put_answer sink bytes); late = sink.late || not (sink.faults == 0) }

@@ -1,20 +1,15 @@
 -- Files by name, and what fetching one leaves.
-use Rattle.std.specs.Prelude.{◌≡◌, ℕ, ◌<◌, ◌≤◌, ◌⊎◌, Bool, true, false, List, [], ◌∷◌, length, Option, Some, None, IfSome, IsSomeAnd, if◌then◌else◌}
-use Rattle.std.specs.Str.{bytes_eq}
+use Rattle.std.specs.Prelude.{◌≡◌, ℕ, ◌<◌, ◌≤◌, ◌⊎◌, Bool, true, false, List, [], length, Option, Some, None, IfSome, IsSomeAnd}
+use Rattle.plain_text.specs.Lookup.{Named, lookup}
 use Rattle.outside.specs.Faults.{Rose}
 use Rattle.outside.specs.declared.shelf.Fetch.{Fetch}
 use Rattle.outside.specs.declared.shelf.Fetch.TheVariants.{Whole, TooLong, Failed, NoMemory}
 
 -- what a shelf holds: files by name, of two with one name the first counts; and whether any other name reads
 -- as an empty file
-pub record Held : Type 0 where
-  pub files : List (List ℕ × List ℕ)
+pub record ShelfFiles : Type 0 where
+  pub files : Named (List ℕ)
   pub others_empty : Bool
-
--- the bytes of the first file that has this name
-abbrev pub first_named : List ℕ → List (List ℕ × List ℕ) → Option (List ℕ)
-first_named name [] = None
-first_named name (file ∷ files) = if bytes_eq file.0 name then Some file.1 else first_named name files
 
 -- a file where there is one, and otherwise what other names read as
 abbrev pub or_other : Bool → Option (List ℕ) → Option (List ℕ)
@@ -23,13 +18,13 @@ or_other true None = Some []
 or_other false None = None
 
 -- the file of a name, where it has one
-abbrev pub file_of : Held → List ℕ → Option (List ℕ)
-file_of held name = or_other held.others_empty (first_named name held.files)
+abbrev pub file_of : ShelfFiles → List ℕ → Option (List ℕ)
+file_of held name = or_other held.others_empty (lookup name held.files)
 
 -- what contracts see of a shelf: its count of faults, and what it holds where it tells that
 pub record ShelfState : Type 0 where
   pub faults : ℕ
-  pub told : Option Held
+  pub told : Option ShelfFiles
 
 -- the shelf tells that the name has no file
 abbrev pub TellsMissing : ShelfState → List ℕ → Type 0

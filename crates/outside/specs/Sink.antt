@@ -26,29 +26,29 @@ PutLeaves old bytes Done new = (new.faults ≡ old.faults) × Appended old bytes
 PutLeaves old bytes Failed new = Rose old.faults new.faults × AppendedPrefix old bytes new
 
 -- a sink in which no put came after a fault stays so
-abbrev pub StaysTimely : SinkState → SinkState → Type 0
-StaysTimely old new = old.faults ≡ 0 → old.late ≡ false → new.late ≡ false
+abbrev pub NoPutAfterFault : SinkState → SinkState → Type 0
+NoPutAfterFault old new = old.faults ≡ 0 → old.late ≡ false → new.late ≡ false
 
--- one put for each piece, in order, leads from one sink to another; `took` says to which sinks one put leads
-abbrev pub Puts : {K : Type 0} → (K → List ℕ → K → Type 0) → K → List (List ℕ) → K → Type 0
-Puts {K} took old [] new = new ≡ old
-Puts {K} took old (piece ∷ pieces) new = (between : K) × took old piece between × Puts took between pieces new
+-- one put for each piece, in order, leads from one sink to another; `puts` says to which sinks one put leads
+abbrev pub PutsEach : {K : Type 0} → (K → List ℕ → K → Type 0) → K → List (List ℕ) → K → Type 0
+PutsEach {K} puts old [] new = new ≡ old
+PutsEach {K} puts old (piece ∷ pieces) new = (between : K) × puts old piece between × PutsEach puts between pieces new
 
 -- one put for each piece, and none failed
-pub record WroteAll {K : Type 0} (took : K → List ℕ → K → Type 0) (state : K → SinkState) (old : K) (pieces : List (List ℕ)) (new : K) : Type 0 where
-  pub puts : Puts took old pieces new
+pub record WroteAll {K : Type 0} (puts : K → List ℕ → K → Type 0) (state : K → SinkState) (old : K) (pieces : List (List ℕ)) (new : K) : Type 0 where
+  pub each : PutsEach puts old pieces new
   pub count : (state new).faults ≡ (state old).faults
   pub bytes : Appended (state old) (concat pieces) (state new)
-  pub timely : StaysTimely (state old) (state new)
+  pub timely : NoPutAfterFault (state old) (state new)
 
 -- one put for each piece, and the last of them failed
-pub record BrokeOff {K : Type 0} (took : K → List ℕ → K → Type 0) (state : K → SinkState) (old : K) (pieces : List (List ℕ)) (new : K) : Type 0 where
-  pub puts : Puts took old pieces new
+pub record BrokeOff {K : Type 0} (puts : K → List ℕ → K → Type 0) (state : K → SinkState) (old : K) (pieces : List (List ℕ)) (new : K) : Type 0 where
+  pub each : PutsEach puts old pieces new
   pub rose : Rose (state old).faults (state new).faults
   pub bytes : AppendedPrefix (state old) (concat pieces) (state new)
-  pub timely : StaysTimely (state old) (state new)
+  pub timely : NoPutAfterFault (state old) (state new)
 
 -- what putting pieces in order leaves, by the answer of the last put: all of them, or those up to one that failed
 abbrev pub PutsPieces : {K : Type 0} → (K → List ℕ → K → Type 0) → (K → SinkState) → K → List (List ℕ) → Put → K → Type 0
-PutsPieces took state old pieces Done new = WroteAll took state old pieces new
-PutsPieces took state old pieces Failed new = (n : ℕ) × BrokeOff took state old (take n pieces) new
+PutsPieces puts state old pieces Done new = WroteAll puts state old pieces new
+PutsPieces puts state old pieces Failed new = (n : ℕ) × BrokeOff puts state old (take n pieces) new

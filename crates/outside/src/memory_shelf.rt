@@ -1,6 +1,7 @@
 ghost use Rattle.std.specs.Prelude.{◌≡◌, ◌≤◌, [], map, string_bytes, option_map, vec_capacity};
 ghost use Rattle.outside.specs.Faults.{next_count};
-ghost use Rattle.outside.specs.Shelf.{FetchLeaves, first_named};
+ghost use Rattle.plain_text.specs.Lookup.{lookup};
+ghost use Rattle.outside.specs.Shelf.{FetchLeaves};
 ghost use Rattle.outside.specs.Memory.{MemoryFiles, CopyLeaves, FetchAnswers, after_fetch, next_fails, shelf_state};
 
 use crate::shelf::{Fetch, Shelf};
@@ -12,7 +13,7 @@ use std::marker::Model;
 pub struct MemoryShelf {
     files: Vec<(String, Vec<u8>)>,
     failing: Vec<usize>,
-    fetches: usize,
+    fetch_count: usize,
     faults: u64,
 }
 
@@ -22,7 +23,7 @@ impl Model for MemoryShelf {
     ghost view = { λ s. record {
       files = map (λ file. (string_bytes file.0, file.1.items)) s.files.items;
       failing = s.failing.items;
-      fetches = s.fetches;
+      fetch_count = s.fetch_count;
       faults = s.faults;
     } };
 }
@@ -34,14 +35,14 @@ impl MemoryShelf {
         ensures { result ≡ record {
           files = map (λ file. (string_bytes file.0, file.1.items)) files.items;
           failing = fail.items;
-          fetches = 0;
+          fetch_count = 0;
           faults = 0;
         } }
     {
         MemoryShelf {
             files,
             failing: fail,
-            fetches: 0,
+            fetch_count: 0,
             faults: 0,
         }
     }
@@ -57,7 +58,7 @@ impl Shelf for MemoryShelf {
         ensures grows { self.old.faults ≤ self.new.faults }
         ensures told { (shelf_state self.new).told ≡ (shelf_state self.old).told }
         ensures fetched { self.new ≡ after_fetch self.old name.now }
-        ensures answer { FetchAnswers self.old limit (vec_capacity into.old) (first_named name.now self.old.files) result }
+        ensures answer { FetchAnswers self.old limit (vec_capacity into.old) (lookup name.now self.old.files) result }
     {
         into.clear();
         let fails = self.next_fails();
@@ -75,7 +76,7 @@ impl Shelf for MemoryShelf {
 
 impl MemoryShelf {
     fn file(&self, name: &str) -> Option<&[u8]>
-        ensures { option_map (λ bytes. bytes.now) result ≡ first_named name.now self.now.files }
+        ensures { option_map (λ bytes. bytes.now) result ≡ lookup name.now self.now.files }
     {
         find_file(&self.files, name)
     }
@@ -84,13 +85,13 @@ impl MemoryShelf {
     fn next_fails(&self) -> bool
         ensures { result ≡ next_fails self.now }
     {
-        self.failing.contains(&self.fetches)
+        self.failing.contains(&self.fetch_count)
     }
 
     fn count_fetch(&mut self)
-        ensures { self.new ≡ record self.old { fetches = next_count self.old.fetches } }
+        ensures { self.new ≡ record self.old { fetch_count = next_count self.old.fetch_count } }
     {
-        self.fetches = self.fetches.saturating_add(1);
+        self.fetch_count = self.fetch_count.saturating_add(1);
     }
 
     fn count_fault(&mut self)
@@ -103,7 +104,7 @@ impl MemoryShelf {
 
 // The bytes of the first file of this name.
 fn find_file<'a>(files: &'a [(String, Vec<u8>)], name: &str) -> Option<&'a [u8]>
-    ensures { option_map (λ bytes. bytes.now) result ≡ first_named name.now (map (λ file. (string_bytes file.0, file.1.items)) files.now) }
+    ensures { option_map (λ bytes. bytes.now) result ≡ lookup name.now (map (λ file. (string_bytes file.0, file.1.items)) files.now) }
 {
     for file in files {
         if file.0.as_str() == name {

@@ -12,7 +12,7 @@ pub struct MemorySink {
     bytes: Vec<u8>,
     room: usize,
     failing: Vec<(usize, usize)>,
-    puts: usize,
+    put_count: usize,
     faults: u64,
     late: bool,
 }
@@ -24,7 +24,7 @@ impl Model for MemorySink {
       bytes = s.bytes.items;
       room = s.room;
       failing = s.failing.items;
-      puts = s.puts;
+      put_count = s.put_count;
       faults = s.faults;
       late = s.late;
     } };
@@ -44,7 +44,7 @@ impl MemorySink {
           bytes = [];
           room = room;
           failing = fail.items;
-          puts = 0;
+          put_count = 0;
           faults = 0;
           late = false;
         }) }
@@ -53,7 +53,7 @@ impl MemorySink {
             bytes: Vec::with_capacity(alloc, room)?,
             room,
             failing: fail,
-            puts: 0,
+            put_count: 0,
             faults: 0,
             late: false,
         })
@@ -70,23 +70,23 @@ impl MemorySink {
 impl Sink for MemorySink {
     ghost state = { sink_state };
 
-    ghost took = { λ old bytes new. new ≡ after_put old bytes };
+    ghost puts = { λ old bytes new. new ≡ after_put old bytes };
 
     fn put(&mut self, bytes: &[u8]) -> Put
         ensures leaves { PutLeaves (sink_state self.old) bytes.now result (sink_state self.new) }
         ensures grows { self.old.faults ≤ self.new.faults }
         ensures late { self.new.late ≡ (self.old.late || not (self.old.faults == 0)) }
-        ensures took { self.new ≡ after_put self.old bytes.now }
+        ensures puts { self.new ≡ after_put self.old bytes.now }
         ensures answer { result ≡ put_answer self.old bytes.now }
     {
-        let listed = find_listed(&self.failing, self.puts);
+        let listed = find_listed(&self.failing, self.put_count);
         let room_left = self.room - self.bytes.len();
         let taken = listed
             .unwrap_or(bytes.len())
             .min(bytes.len().min(room_left));
         // The room was reserved, so this doesn't fail.
         let _ = self.bytes.extend_from_slice(&bytes[..taken]);
-        self.puts = self.puts.saturating_add(1);
+        self.put_count = self.put_count.saturating_add(1);
         self.late = self.late || self.faults != 0;
         if listed.is_none() && bytes.len() <= room_left {
             return Put::Done;

@@ -40,7 +40,7 @@ impl<'a, R: Print> Sink for OutSink<'a, R> {
     ghost state = { λ sink. sink };
 
     // No contract knows what standard output takes.
-    ghost took = { λ _ _ _. Unit {0} };
+    ghost puts = { λ _ _ _. Unit {0} };
 
     fn put(&mut self, bytes: &[u8]) -> Put {
         self.late = self.late || self.faults != 0;

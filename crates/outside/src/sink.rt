@@ -16,7 +16,7 @@ pub trait Sink {
     ghost state: { Self → SinkState };
 
     /// One put of these bytes may lead from this sink to that one.
-    ghost took: { Self → List ℕ → Self → Type 0 };
+    ghost puts: { Self → List ℕ → Self → Type 0 };
 
     /// Appends bytes.
     fn put(&mut self, bytes: &[u8]) -> Put
@@ -24,7 +24,7 @@ pub trait Sink {
         ensures grows { (state self.old).faults ≤ (state self.new).faults }
         // A put that comes after a fault makes the sink late for ever.
         ensures late { (state self.new).late ≡ ((state self.old).late || not ((state self.old).faults == 0)) }
-        ensures took { took self.old bytes.now self.new };
+        ensures puts { puts self.old bytes.now self.new };
 }
 
 #[cfg(test)]

@@ -19,5 +19,5 @@ pub value_more : (bytes : List ℕ) (i : ℕ) → IsWholeNumber bytes → i < le
 value_more bytes i h lt = digits_value_more 10 bytes i lt ∙ ap (λ d. value_of_digits (take i bytes) * 10 + d) (digit_value_is (get_or bytes i 0) (digit_in bytes i h lt))
 
 -- some digits are worth no more than all
-pub value_front : (bytes : List ℕ) (i : ℕ) → value_of_digits (take i bytes) ≤ value_of_digits bytes
-value_front bytes i = digits_value-take-le 10 bytes i (omega arith)
+pub value_prefix : (bytes : List ℕ) (i : ℕ) → value_of_digits (take i bytes) ≤ value_of_digits bytes
+value_prefix bytes i = digits_value-take-le 10 bytes i (omega arith)

@@ -1,4 +1,4 @@
 pub mod DigitValues
-pub mod FrontDigits
+pub mod DigitPrefix
 pub mod LineCounts
 pub mod WholeNumbers

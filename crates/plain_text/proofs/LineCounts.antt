@@ -1,4 +1,4 @@
--- Lines of a text that is a front and a rest.
+-- Lines of a text that is a prefix and a rest.
 use Rattle.std.proofs.Common.{◌≡◌, ℕ, ◌+◌, ◌-◌, ◌≤◌, ◌==◌, List, [], ◌∷◌, ◌++◌, true, cond, not, length, take, drop, arith, ◌∙◌, ap, refl}
 use Rattle.std.specs.List.{list_all, slice_range}
 use Rattle.std.proofs.lemmas.Bool.Decides.{nat_tests}
@@ -7,7 +7,7 @@ use Rattle.std.proofs.lemmas.List.Sums.{sum_by-append, sum_by-cons}
 use Rattle.std.proofs.Math.Seq.{take-add, take-append-add}
 use Rattle.plain_text.specs.Lines.{line_feeds, line_at}
 
--- the LF bytes of a front and of the rest behind it
+-- the LF bytes of a prefix and of the rest after it
 pub line_feeds-append : (xs ys : List ℕ) → line_feeds (xs ++ ys) ≡ line_feeds xs + line_feeds ys
 line_feeds-append xs ys = sum_by-append _ xs ys
 
@@ -27,11 +27,11 @@ pub line_at-between : (text : List ℕ) (i j : ℕ) → i ≤ j → line_at text
 line_at-between text i j le =
     let e : j ≡ i + (j - i) = omega arith in ap (line_at text) e ∙ line_at-more text i (j - i)
 
--- a place within a front has the same line in the front alone
-pub line_at-front : (xs ys : List ℕ) (i : ℕ) → i ≤ length xs → line_at (xs ++ ys) i ≡ line_at xs i
-line_at-front xs ys i le = ap (λ front. 1 + line_feeds front) (take-append-le i xs ys le)
+-- a place within a prefix has the same line in the prefix alone
+pub line_at-prefix : (xs ys : List ℕ) (i : ℕ) → i ≤ length xs → line_at (xs ++ ys) i ≡ line_at xs i
+line_at-prefix xs ys i le = ap (λ prefix. 1 + line_feeds prefix) (take-append-le i xs ys le)
 
--- a place behind a front is as many lines further as the front has LF bytes
+-- a place after a prefix is as many lines further as the prefix has LF bytes
 pub line_at-behind : (xs ys : List ℕ) (i : ℕ) → line_at (xs ++ ys) (length xs + i) ≡ line_feeds xs + line_at ys i
 line_at-behind xs ys i = rw (take-append-add xs ys i, line_feeds-append) (omega arith)
 

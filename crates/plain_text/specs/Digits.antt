@@ -12,15 +12,15 @@ IsWholeNumber bytes = IsNumeral 10 bytes
 abbrev pub value_of_digits : List ℕ → ℕ
 value_of_digits bytes = digits_value 10 bytes
 
--- the decimal digits at the front
-abbrev pub front_digits : List ℕ → List ℕ
-front_digits bytes = take_while is_ascii_digit bytes
+-- the decimal digits at the start
+abbrev pub digit_prefix : List ℕ → List ℕ
+digit_prefix bytes = take_while is_ascii_digit bytes
 
 -- a minus in front
 abbrev pub is_negative : List ℕ → Bool
 is_negative bytes = starts_with nat_eq bytes (codes "-")
 
--- what stands behind an optional minus
+-- what stands after an optional minus
 abbrev pub unsigned_part : List ℕ → List ℕ
 unsigned_part bytes = if is_negative bytes then drop 1 bytes else bytes
 

@@ -3,7 +3,7 @@ ghost use Rattle.std.specs.Prelude.{◌<◌, ◌≡◌, ◌≤◌, ◌↔◌, �
 
 use crate::digits::{digits_len, number_up_to};
 
-/// What stands behind an optional minus.
+/// What stands after an optional minus.
 pub fn unsigned_part(text: &[u8]) -> &[u8]
     ensures { result.now ≡ unsigned_part text.now }
 {

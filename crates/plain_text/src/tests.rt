@@ -3,7 +3,7 @@ use super::{digits_len, integer_up_to, is_integer, line_feeds, number_up_to};
 const GREATEST: u128 = 170141183460469231731687303715884105727;
 
 #[test]
-fn digits_at_the_front(rt: HostRuntime) {
+fn digits_at_the_start(rt: HostRuntime) {
     assert_eq!(rt; digits_len(b"0..9"), 1);
     assert_eq!(rt; digits_len(b"007"), 3);
     assert_eq!(rt; digits_len(b"x1"), 0);

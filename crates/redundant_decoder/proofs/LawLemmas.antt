@@ -10,7 +10,7 @@ use Rattle.number_theory.proofs.CoprimeLemmas.{same_from_residues_within}
 use Rattle.moduli_sets.specs.Set.{ModuliSet, IsInRange, IsModulus, IsModuliSet, information, redundant, radius, information_product, range_bound}
 use Rattle.moduli_sets.specs.Vector.{vector_of}
 use Rattle.redundant_decoder.specs.Nearest.{part, distance, without}
-use Rattle.redundant_decoder.proofs.PartLemmas.{ArePairwiseCoprime-part, product-part, agreeing, length-agreeing, map-agreeing, all_kept, all_but, part-all_kept, part-all_but, remove-map}
+use Rattle.redundant_decoder.proofs.PartLemmas.{ArePairwiseCoprime-part, product-part, agreeing_places, length-agreeing, map-agreeing, all_kept, all_but, part-all_kept, part-all_but, remove-map}
 
 -- ---- equal integers
 -- a part with as many members as there are information moduli has a product of at least theirs
@@ -28,10 +28,10 @@ same_from_part set keeps x y rules in_x in_y many e =
     let wide : 2 * range_bound set < product (part keeps set.moduli) = omega (arith, rules.wide, product_of_part set keeps rules many) in
     same_from_residues_within (part keeps set.moduli) (range_bound set) x y (ArePairwiseCoprime-part keeps set.moduli rules.coprime) e wide in_x.low in_x.high in_y.low in_y.high
 
--- and so are integers in range where the distance over a part leaves as many agreeing places
+-- and so are integers in range where the distance over a part leaves as many agreeing_places places
 pub same_from_part_distance : (set : ModuliSet) (keeps : List Bool) (x y : ℤ) → IsModuliSet set → IsInRange set x → IsInRange set y → set.info + distance (vector_of (part keeps set.moduli) x) (vector_of (part keeps set.moduli) y) ≤ length (part keeps set.moduli) → x ≡ y
 same_from_part_distance set keeps x y rules in_x in_y near =
-    let agree = agreeing keeps (residue x) (residue y) set.moduli in
+    let agree = agreeing_places keeps (residue x) (residue y) set.moduli in
     let count = length-agreeing keeps (residue x) (residue y) set.moduli in
     same_from_part set agree x y rules in_x in_y (omega (arith, count)) (map-agreeing keeps (residue x) (residue y) set.moduli)
 
@@ -47,8 +47,8 @@ same_from_distance_of_whole set x y rules in_x in_y near =
     same_from_part_distance set (all_kept set.moduli) x y rules in_x in_y (subst at (sym (part-all_kept set.moduli)) enough)
 
 -- and for all but one
-pub same_from_distance_without : (set : ModuliSet) (i : ℕ) (x y : ℤ) → IsModuliSet set → i < length set.moduli → IsInRange set x → IsInRange set y → distance (remove (vector_of set.moduli x) i) (remove (vector_of set.moduli y) i) ≤ 2 * radius set → x ≡ y
-same_from_distance_without set i x y rules h in_x in_y near =
+pub same_from_distance_erased : (set : ModuliSet) (i : ℕ) (x y : ℤ) → IsModuliSet set → i < length set.moduli → IsInRange set x → IsInRange set y → distance (remove (vector_of set.moduli x) i) (remove (vector_of set.moduli y) i) ≤ 2 * radius set → x ≡ y
+same_from_distance_erased set i x y rules h in_x in_y near =
     let apart : distance (vector_of (remove set.moduli i) x) (vector_of (remove set.moduli i) y) ≤ 2 * radius set = rw (← remove-map (residue x) set.moduli i, ← remove-map (residue y) set.moduli i) near in
     let enough : set.info + distance (vector_of (remove set.moduli i) x) (vector_of (remove set.moduli i) y) ≤ length (remove set.moduli i) = omega (arith, apart, count_of_moduli set rules, length-remove set.moduli i h) in
     let at = λ (ms : List ℕ). set.info + distance (vector_of ms x) (vector_of ms y) ≤ length ms in
@@ -71,10 +71,10 @@ law_of_whole set x y rules in_x in_y other =
       | inr far ↦ far
     ]
 
--- and in as many where a channel is left out
-pub law_of_without : (set : ModuliSet) (i : ℕ) (x y : ℤ) → IsModuliSet set → i < length set.moduli → IsInRange set x → IsInRange set y → x ≢ y → 2 * radius set + 1 ≤ distance (without (Some i) (vector_of set.moduli x)) (without (Some i) (vector_of set.moduli y))
-law_of_without set i x y rules h in_x in_y other =
+-- and in as many as there are redundant moduli where a channel is erased
+pub law_of_erased : (set : ModuliSet) (i : ℕ) (x y : ℤ) → IsModuliSet set → i < length set.moduli → IsInRange set x → IsInRange set y → x ≢ y → 2 * radius set + 1 ≤ distance (without (Some i) (vector_of set.moduli x)) (without (Some i) (vector_of set.moduli y))
+law_of_erased set i x y rules h in_x in_y other =
     elim (cases_lt (distance (remove (vector_of set.moduli x) i) (remove (vector_of set.moduli y) i)) (2 * radius set + 1)) [
-      | inl near ↦ absurd (other (same_from_distance_without set i x y rules h in_x in_y (omega arith)))
+      | inl near ↦ absurd (other (same_from_distance_erased set i x y rules h in_x in_y (omega arith)))
       | inr far ↦ far
     ]

@@ -102,12 +102,12 @@ product-part n keeps ms positive larger many =
     least_above is [] p h = tt
     least_above is (r ∷ rs) p h = (greatest-below is r p.0 (recursion_from_All (λ m. m < r) is h.0), least_above is rs p.1 h.1)
 
--- ---- agreeing places
+-- ---- agreeing_places places
 -- the places of a part at which f and g agree
-pub agreeing : List Bool → (ℕ → ℕ) → (ℕ → ℕ) → List ℕ → List Bool
-agreeing [] f g ms = []
-agreeing (keep ∷ keeps) f g [] = []
-agreeing (keep ∷ keeps) f g (m ∷ ms) = (keep && (f m == g m)) ∷ agreeing keeps f g ms
+pub agreeing_places : List Bool → (ℕ → ℕ) → (ℕ → ℕ) → List ℕ → List Bool
+agreeing_places [] f g ms = []
+agreeing_places (keep ∷ keeps) f g [] = []
+agreeing_places (keep ∷ keeps) f g (m ∷ ms) = (keep && (f m == g m)) ∷ agreeing_places keeps f g ms
 
 -- one place more, at which they agree or not
 length_more : (b : Bool) (keeps : List Bool) (m d : ℕ) (ms : List ℕ) → length (part (b ∷ keeps) (m ∷ ms)) + ((if b then 0 else 1) + d) ≡ suc (length (part keeps ms) + d)
@@ -115,12 +115,12 @@ length_more true keeps m d ms = omega arith
 length_more false keeps m d ms = omega arith
 
 -- there are as many as the part has members, less the distance
-pub length-agreeing : (keeps : List Bool) (f g : ℕ → ℕ) (ms : List ℕ) → length (part (agreeing keeps f g ms) ms) + distance (map f (part keeps ms)) (map g (part keeps ms)) ≡ length (part keeps ms)
-unfolding agreeing
+pub length-agreeing : (keeps : List Bool) (f g : ℕ → ℕ) (ms : List ℕ) → length (part (agreeing_places keeps f g ms) ms) + distance (map f (part keeps ms)) (map g (part keeps ms)) ≡ length (part keeps ms)
+unfolding agreeing_places
 length-agreeing [] f g ms = refl
 length-agreeing (keep ∷ keeps) f g [] = refl
 length-agreeing (true ∷ keeps) f g (m ∷ ms) =
-    length_more (f m == g m) (agreeing keeps f g ms) m (distance (map f (part keeps ms)) (map g (part keeps ms))) ms
+    length_more (f m == g m) (agreeing_places keeps f g ms) m (distance (map f (part keeps ms)) (map g (part keeps ms))) ms
     ∙ ap suc (length-agreeing keeps f g ms)
 length-agreeing (false ∷ keeps) f g (m ∷ ms) = length-agreeing keeps f g ms
 
@@ -129,12 +129,12 @@ map_more_agreeing true keeps f g m ms same tail = let head = same refl in cc
 map_more_agreeing false keeps f g m ms same tail = tail
 
 -- there f and g agree
-pub map-agreeing : (keeps : List Bool) (f g : ℕ → ℕ) (ms : List ℕ) → map f (part (agreeing keeps f g ms) ms) ≡ map g (part (agreeing keeps f g ms) ms)
-unfolding agreeing
+pub map-agreeing : (keeps : List Bool) (f g : ℕ → ℕ) (ms : List ℕ) → map f (part (agreeing_places keeps f g ms) ms) ≡ map g (part (agreeing_places keeps f g ms) ms)
+unfolding agreeing_places
 map-agreeing [] f g ms = refl
 map-agreeing (keep ∷ keeps) f g [] = refl
 map-agreeing (true ∷ keeps) f g (m ∷ ms) =
-    map_more_agreeing (f m == g m) (agreeing keeps f g ms) f g m ms (eqb-true (f m) (g m)) (map-agreeing keeps f g ms)
+    map_more_agreeing (f m == g m) (agreeing_places keeps f g ms) f g m ms (eqb-true (f m) (g m)) (map-agreeing keeps f g ms)
 map-agreeing (false ∷ keeps) f g (m ∷ ms) = map-agreeing keeps f g ms
 
 -- ---- the whole list, and all of it but one

@@ -7,11 +7,11 @@ use Rattle.number_theory.specs.Residue.{residue, AreResidues}
 use Rattle.moduli_sets.specs.Set.{ModuliSet, IsInRange, IsModuliSet, radius}
 use Rattle.moduli_sets.specs.Vector.{vector_of}
 use Rattle.redundant_decoder.specs.Nearest.{distance, IsNearest}
-use Rattle.redundant_decoder.specs.Verdict.{IsCorrection, IsVerdict, IsOf}
+use Rattle.redundant_decoder.specs.Verdict.{IsCorrection, IsVerdict, HasInteger}
 use Rattle.redundant_decoder.specs.declared.decoder.Verdict.{Verdict}
 use Rattle.redundant_decoder.specs.declared.decoder.Verdict.TheVariants.{Clean, Corrected, Damaged}
 use Rattle.redundant_decoder.proofs.DistanceLemmas.{distance-self, distance-by_third, same_place, distance_from_remove, same_from_remove, remove_from_distance}
-use Rattle.redundant_decoder.proofs.LawLemmas.{same_from_distance_of_whole, same_from_distance_without}
+use Rattle.redundant_decoder.proofs.LawLemmas.{same_from_distance_of_whole, same_from_distance_erased}
 
 -- ---- nearest integers
 -- a vector has one residue for each modulus
@@ -39,14 +39,14 @@ same_nearest set v x y rules residues at_x at_y =
 length-remove_same : (xs ys : List ℕ) (i : ℕ) → length xs ≡ length ys → i < length xs → length (remove xs i) ≡ length (remove ys i)
 length-remove_same xs ys i e h = omega (arith, length-remove xs i h, length-remove ys i (omega arith))
 
--- and one where a channel is left out
-pub same_nearest_without : (set : ModuliSet) (i : ℕ) (v : List ℕ) (x y : ℤ) → IsModuliSet set → i < length set.moduli → AreResidues set.moduli v → IsNearest (radius set) (Some i) set v (Some x) → IsNearest (radius set) (Some i) set v (Some y) → x ≡ y
-same_nearest_without set i v x y rules h residues at_x at_y =
+-- and one where a channel is erased
+pub same_nearest_erased : (set : ModuliSet) (i : ℕ) (v : List ℕ) (x y : ℤ) → IsModuliSet set → i < length set.moduli → AreResidues set.moduli v → IsNearest (radius set) (Some i) set v (Some x) → IsNearest (radius set) (Some i) set v (Some y) → x ≡ y
+same_nearest_erased set i v x y rules h residues at_x at_y =
     let vx = vector_of set.moduli x in
     let long : length vx ≡ length set.moduli = length-map set.moduli (residue x) in
     let even = length-remove_same vx v i (length-vector set.moduli v x residues) (omega (arith, long)) in
     let near = distance-by_third (remove vx i) (remove (vector_of set.moduli y) i) (remove v i) (radius set) (radius set) even at_x.close at_y.close in
-    same_from_distance_without set i x y rules h at_x.in_range at_y.in_range (omega (arith, near))
+    same_from_distance_erased set i x y rules h at_x.in_range at_y.in_range (omega (arith, near))
 
 -- ---- verdicts
 -- an integer in range is nearest to its vector
@@ -56,7 +56,7 @@ IsNearest-clean set v x in_x e =
     record { in_range = in_x; close = omega (arith, none) }
 
 -- as many wrong residues as the radius at the most are corrected
-pub verdict_corrected : (set : ModuliSet) (v : List ℕ) (x : ℤ) (verdict : Verdict) → IsModuliSet set → AreResidues set.moduli v → IsInRange set x → distance (vector_of set.moduli x) v ≤ radius set → IsVerdict set v verdict → IsOf verdict x
+pub verdict_corrected : (set : ModuliSet) (v : List ℕ) (x : ℤ) (verdict : Verdict) → IsModuliSet set → AreResidues set.moduli v → IsInRange set x → distance (vector_of set.moduli x) v ≤ radius set → IsVerdict set v verdict → HasInteger verdict x
 verdict_corrected set v x (Clean y) rules residues in_x near h =
     same_nearest set v y x rules residues (IsNearest-clean set v y h.0 h.1) (record { in_range = in_x; close = near })
 verdict_corrected set v x (Corrected y i) rules residues in_x near h =

@@ -17,17 +17,17 @@ distance [] ys = 0
 distance (x ∷ xs) [] = 0
 distance (x ∷ xs) (y ∷ ys) = (if x == y then 0 else 1) + distance xs ys
 
--- the list without what stands at the place that is left out, where there is one
+-- the list without what stands at the erased place, where there is one
 abbrev pub without : Option ℕ → List ℕ → List ℕ
 without None xs = xs
 without (Some i) xs = remove xs i
 
--- x is in range, and its vector is at distance t from v at the most; a channel that is left out counts for nothing
-pub record IsWithin (t : ℕ) (left_out : Option ℕ) (set : ModuliSet) (v : List ℕ) (x : ℤ) : Type 0 where
+-- x is in range, and its vector is at distance t from v at the most; an erased channel counts for nothing
+pub record IsWithin (t : ℕ) (erased : Option ℕ) (set : ModuliSet) (v : List ℕ) (x : ℤ) : Type 0 where
   pub in_range : IsInRange set x
-  pub close : distance (without left_out (vector_of set.moduli x)) (without left_out v) ≤ t
+  pub close : distance (without erased (vector_of set.moduli x)) (without erased v) ≤ t
 
 -- the nearest integer of v: the one in range within distance t, where there is one
 abbrev pub IsNearest : ℕ → Option ℕ → ModuliSet → List ℕ → Option ℤ → Type 0
-IsNearest t left_out set v (Some x) = IsWithin t left_out set v x
-IsNearest t left_out set v None = (x : ℤ) → IsWithin t left_out set v x → ⊥
+IsNearest t erased set v (Some x) = IsWithin t erased set v x
+IsNearest t erased set v None = (x : ℤ) → IsWithin t erased set v x → ⊥

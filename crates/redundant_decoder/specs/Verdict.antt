@@ -20,7 +20,7 @@ IsVerdict set v (Corrected x i) = IsCorrection set v x i
 IsVerdict set v Damaged = IsNearest (radius set) None set v None
 
 -- the verdict is the integer x, clean or corrected
-abbrev pub IsOf : Verdict → ℤ → Type 0
-IsOf (Clean y) x = y ≡ x
-IsOf (Corrected y i) x = y ≡ x
-IsOf Damaged x = ⊥
+abbrev pub HasInteger : Verdict → ℤ → Type 0
+HasInteger (Clean y) x = y ≡ x
+HasInteger (Corrected y i) x = y ≡ x
+HasInteger Damaged x = ⊥

@@ -3,13 +3,13 @@ ghost use Rattle.number_theory.specs.Residue.{AreResidues};
 ghost use Rattle.moduli_sets.specs.Set.{ModuliSet, IsModuliSet, IsInRange, redundant, radius};
 ghost use Rattle.moduli_sets.specs.Vector.{vector_of};
 ghost use Rattle.redundant_decoder.specs.Nearest.{IsNearest, IsWithin, distance, part, without};
-ghost use Rattle.redundant_decoder.specs.Verdict.{IsOf, IsVerdict};
+ghost use Rattle.redundant_decoder.specs.Verdict.{HasInteger, IsVerdict};
 ghost use Rattle.redundant_decoder.specs.declared.decoder.Verdict.{Verdict};
 ghost use Rattle.redundant_decoder.specs.declared.decoder.Verdict.TheVariants.{Clean, Corrected, Damaged};
 
 /// The distance law. Over any part of the moduli two distinct integers in range agree in fewer places than there are
 /// information moduli. So their vectors differ in more places than there are redundant moduli, and in one place less
-/// where a channel is left out: at least 4 for three redundant moduli, 6 for five.
+/// where a channel is erased: at least 4 for three redundant moduli, 6 for five.
 pub fn distance_law()
     ensures part { (set : ModuliSet) (keeps : List Bool) (x y : ℤ)
         → IsModuliSet set
@@ -23,7 +23,7 @@ pub fn distance_law()
         → IsInRange set y
         → x ≢ y
         → 2 * radius set + 2 ≤ distance (vector_of set.moduli x) (vector_of set.moduli y) }
-    ensures without { (set : ModuliSet) (i : ℕ) (x y : ℤ)
+    ensures erased { (set : ModuliSet) (i : ℕ) (x y : ℤ)
         → IsModuliSet set
         → i < length set.moduli
         → IsInRange set x
@@ -32,7 +32,7 @@ pub fn distance_law()
         → 2 * radius set + 1 ≤ distance (without (Some i) (vector_of set.moduli x)) (without (Some i) (vector_of set.moduli y)) }
 {}
 
-/// A vector has one nearest integer at the most: within the radius of the set, whether a channel is left out or not.
+/// A vector has one nearest integer at the most: within the radius of the set, whether a channel is erased or not.
 pub fn nearest_is_the_only_one()
     ensures whole { (set : ModuliSet) (v : List ℕ) (x y : ℤ)
         → IsModuliSet set
@@ -40,7 +40,7 @@ pub fn nearest_is_the_only_one()
         → IsNearest (radius set) None set v (Some x)
         → IsNearest (radius set) None set v (Some y)
         → x ≡ y }
-    ensures without { (set : ModuliSet) (i : ℕ) (v : List ℕ) (x y : ℤ)
+    ensures erased { (set : ModuliSet) (i : ℕ) (v : List ℕ) (x y : ℤ)
         → IsModuliSet set
         → i < length set.moduli
         → AreResidues set.moduli v
@@ -58,7 +58,7 @@ pub fn wrong_residues()
         → IsInRange set x
         → distance (vector_of set.moduli x) v ≤ radius set
         → IsVerdict set v verdict
-        → IsOf verdict x }
+        → HasInteger verdict x }
     ensures detected { (set : ModuliSet) (v : List ℕ) (x : ℤ) (verdict : Verdict)
         → IsModuliSet set
         → AreResidues set.moduli v

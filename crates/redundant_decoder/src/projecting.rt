@@ -2,7 +2,7 @@ ghost use Rattle.std.specs.Prelude.{◌≡◌, ◌^◌, ◌<◌, ℤ, length, If
 ghost use Rattle.number_theory.specs.Coprime.{product};
 ghost use Rattle.number_theory.specs.Residue.{AreResidues};
 ghost use Rattle.moduli_sets.specs.Moduli.{set_of};
-ghost use Rattle.mixed_radix.specs.Chosen.{AreBelow, IsChoice, chosen};
+ghost use Rattle.mixed_radix.specs.Chosen.{AreBelow, IsChoice, entries_at};
 ghost use Rattle.redundant_decoder.specs.Projection.{IsIntegerOf};
 
 use crate::{Decoder, Verdict};
@@ -49,7 +49,7 @@ impl Projecting {
 /// The product of the chosen moduli, whose channels ascend.
 fn product_of(set: &Moduli, which: &Chosen) -> u128
     requires { AreBelow (length (set_of set.now).moduli) which.now }
-    ensures value { result ≡ product (chosen which.now (set_of set.now).moduli) }
+    ensures value { result ≡ product (entries_at which.now (set_of set.now).moduli) }
     ensures fits { result < 2 ^ 127 }
     ensures choice { IsChoice which.now }
 {

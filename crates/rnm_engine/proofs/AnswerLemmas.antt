@@ -2,7 +2,7 @@
 use Rattle.std.proofs.Common.{◌≡◌, ℕ, zero, suc, true, List, [], ◌∷◌, refl, Option, Some, None, MatchOption, sym, subst, inl, inr, ap}
 use Rattle.std.specs.Option.{option_map, option_map_or}
 use Rattle.outside.specs.Faults.{Rose}
-use Rattle.outside.specs.Shelf.{Held, ShelfState, TellsMissing}
+use Rattle.outside.specs.Shelf.{ShelfFiles, ShelfState, TellsMissing}
 use Rattle.command_words.specs.declared.job.Job.{Job}
 use Rattle.command_words.specs.declared.job.Job.TheVariants.{Run, Decode, Encode, Mean, Set}
 use Rattle.command_words.specs.Words.{job_of_words}
@@ -19,7 +19,7 @@ use Rattle.rnm_engine.specs.Answer.{IsAnswer, IsJobAnswer, IsMeanAnswer, IsRunAn
 
 -- ---- by the job
 -- the answer to words that ask for a job is the answer to the job
-pub answer_for : (held : ℕ → Held) (words : List (List ℕ)) (job : Option Job) (pieces : List (List ℕ)) (status : Status) → job ≡ job_of_words words → MatchOption job ((pieces ≡ usage_lines) × (status ≡ Usage)) (λ j. IsJobAnswer held words j pieces status) → IsAnswer held words pieces status
+pub answer_for : (held : ℕ → ShelfFiles) (words : List (List ℕ)) (job : Option Job) (pieces : List (List ℕ)) (status : Status) → job ≡ job_of_words words → MatchOption job ((pieces ≡ usage_lines) × (status ≡ Usage)) (λ j. IsJobAnswer held words j pieces status) → IsAnswer held words pieces status
 answer_for held words job pieces status is h =
     let P : Option Job → Type 0 = λ o. MatchOption o ((pieces ≡ usage_lines) × (status ≡ Usage)) (λ j. IsJobAnswer held words j pieces status) in
     subst P is h
@@ -35,16 +35,16 @@ missing_for shelf words job is h = subst (λ o. SomeName (TellsMissing shelf) (o
 
 -- ---- by what the shelf holds
 -- at the first fetch, and at each later one
-abbrev pub either_of : Held → Held → ℕ → Held
+abbrev pub either_of : ShelfFiles → ShelfFiles → ℕ → ShelfFiles
 either_of first later zero = first
 either_of first later (suc n) = later
 
-pub agrees_either : (told : Option Held) (first later : Held) → Agrees told first → Agrees told later → (n : ℕ) → Agrees told (either_of first later n)
+pub agrees_either : (told : Option ShelfFiles) (first later : ShelfFiles) → Agrees told first → Agrees told later → (n : ℕ) → Agrees told (either_of first later n)
 agrees_either told first later h k zero = h
 agrees_either told first later h k (suc n) = k
 
 -- where the shelf tells what it holds, it holds the same at each fetch
-job_answer_told : (held : ℕ → Held) (known : Held) (words : List (List ℕ)) (job : Job) (pieces : List (List ℕ)) (status : Status) → ((n : ℕ) → known ≡ held n)
+job_answer_told : (held : ℕ → ShelfFiles) (known : ShelfFiles) (words : List (List ℕ)) (job : Job) (pieces : List (List ℕ)) (status : Status) → ((n : ℕ) → known ≡ held n)
     → IsJobAnswer held words job pieces status → IsJobAnswer (λ _. known) words job pieces status
 job_answer_told held known words (Run source) pieces status same h =
     subst (λ first. IsRunAnswer first (file_name words source) pieces status) (sym (same 0)) h
@@ -56,12 +56,12 @@ job_answer_told held known words (Mean source input set steps) pieces status sam
     subst (λ later. IsMeanAnswer known later name other pieces status) (sym (same 1)) (subst (λ first. IsMeanAnswer first (held 1) name other pieces status) (sym (same 0)) h)
 job_answer_told held known words (Set set) pieces status same h = h
 
-answer_told_for : (held : ℕ → Held) (known : Held) (words : List (List ℕ)) (job : Option Job) (pieces : List (List ℕ)) (status : Status) → ((n : ℕ) → known ≡ held n)
+answer_told_for : (held : ℕ → ShelfFiles) (known : ShelfFiles) (words : List (List ℕ)) (job : Option Job) (pieces : List (List ℕ)) (status : Status) → ((n : ℕ) → known ≡ held n)
     → MatchOption job ((pieces ≡ usage_lines) × (status ≡ Usage)) (λ j. IsJobAnswer held words j pieces status) → MatchOption job ((pieces ≡ usage_lines) × (status ≡ Usage)) (λ j. IsJobAnswer (λ _. known) words j pieces status)
 answer_told_for held known words None pieces status same h = h
 answer_told_for held known words (Some job) pieces status same h = job_answer_told held known words job pieces status same h
 
-pub answer_told : (told : Option Held) (held : ℕ → Held) (known : Held) (words pieces : List (List ℕ)) (status : Status) → told ≡ Some known → ((n : ℕ) → Agrees told (held n))
+pub answer_told : (told : Option ShelfFiles) (held : ℕ → ShelfFiles) (known : ShelfFiles) (words pieces : List (List ℕ)) (status : Status) → told ≡ Some known → ((n : ℕ) → Agrees told (held n))
     → IsAnswer held words pieces status → IsAnswer (λ _. known) words pieces status
 answer_told told held known words pieces status is agrees h =
     answer_told_for held known words (job_of_words words) pieces status (λ n. subst (λ t. Agrees t (held n)) is (agrees n)) h

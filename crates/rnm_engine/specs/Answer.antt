@@ -2,7 +2,7 @@
 use Rattle.std.specs.Prelude.{◌≡◌, ℕ, ℤ, ◌⊎◌, List, [], ◌∷◌, ◌++◌, Option, MatchOption, codes}
 use Rattle.std.specs.Option.{option_map, option_map_or}
 use Rattle.number_text.specs.Lines.{line, print_lines}
-use Rattle.outside.specs.Shelf.{Held, file_of}
+use Rattle.outside.specs.Shelf.{ShelfFiles, file_of}
 use Rattle.thin_source.specs.ThinTree.{Program}
 use Rattle.thin_source.specs.ThinMeaning.{IsThin, prints_of}
 use Rattle.command_words.specs.declared.job.Job.{Job}
@@ -37,21 +37,21 @@ IsSourceAnswer text pieces status =
     ⊎ (((program : Program) → IsThin text program → ⊥) × (pieces ≡ unbuilt_lines) × (status ≡ SourceRefused))
 
 -- the answer to running the source of a name
-abbrev pub IsRunAnswer : Held → List ℕ → List (List ℕ) → Status → Type 0
+abbrev pub IsRunAnswer : ShelfFiles → List ℕ → List (List ℕ) → Status → Type 0
 IsRunAnswer held name = WithFile (file_of held name) name IsSourceAnswer
 
 -- the answer to a source text whose meaning on an input is asked for, where the input is a file
-abbrev pub IsInputAnswer : Held → List ℕ → Option (List ℕ) → List (List ℕ) → Status → Type 0
+abbrev pub IsInputAnswer : ShelfFiles → List ℕ → Option (List ℕ) → List (List ℕ) → Status → Type 0
 IsInputAnswer held text input pieces status =
     MatchOption input (IsRefused text pieces status) (λ name. WithFile (file_of held name) name (λ other. IsRefused text) pieces status)
 
 -- the answer to a source by name: what the shelf holds at the first fetch, and at the second
-abbrev pub IsMeanAnswer : Held → Held → List ℕ → Option (List ℕ) → List (List ℕ) → Status → Type 0
+abbrev pub IsMeanAnswer : ShelfFiles → ShelfFiles → List ℕ → Option (List ℕ) → List (List ℕ) → Status → Type 0
 IsMeanAnswer held later source input =
     WithFile (file_of held source) source (λ text. IsInputAnswer later text input)
 
 -- The answer to a job that the words ask for, over what the shelf holds at each fetch of the job.
-abbrev pub IsJobAnswer : (ℕ → Held) → List (List ℕ) → Job → List (List ℕ) → Status → Type 0
+abbrev pub IsJobAnswer : (ℕ → ShelfFiles) → List (List ℕ) → Job → List (List ℕ) → Status → Type 0
 IsJobAnswer held words (Run source) pieces status = IsRunAnswer (held 0) (file_name words source) pieces status
 IsJobAnswer held words (Decode set residues) pieces status =
     (verdict : Verdict) × IsVerdict (set_of_name set) residues verdict × (pieces ≡ verdict_lines verdict) × (status ≡ verdict_status verdict)
@@ -61,7 +61,7 @@ IsJobAnswer held words (Mean source input set steps) pieces status =
 IsJobAnswer held words (Set set) pieces status = (pieces ≡ set_lines (set_of_name set)) × (status ≡ Ok)
 
 -- the answer to words
-abbrev pub IsAnswer : (ℕ → Held) → List (List ℕ) → List (List ℕ) → Status → Type 0
+abbrev pub IsAnswer : (ℕ → ShelfFiles) → List (List ℕ) → List (List ℕ) → Status → Type 0
 IsAnswer held words pieces status =
     MatchOption (job_of_words words) ((pieces ≡ usage_lines) × (status ≡ Usage)) (λ job. IsJobAnswer held words job pieces status)
 

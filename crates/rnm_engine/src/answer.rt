@@ -4,8 +4,8 @@ ghost use Rattle.std.specs.String.{string_bytes};
 ghost use Rattle.command_words.specs.Words.{HoldsOf, job_of_words};
 ghost use Rattle.word_options.specs.Operands.{file_name};
 ghost use Rattle.outside.specs.Faults.{Rose};
-ghost use Rattle.outside.specs.Shelf.{Held, TellsMissing};
-ghost use Rattle.outside.specs.Sink.{WroteAll, StaysTimely};
+ghost use Rattle.outside.specs.Shelf.{ShelfFiles, TellsMissing};
+ghost use Rattle.outside.specs.Sink.{WroteAll, NoPutAfterFault};
 ghost use Rattle.job_endings.specs.Endings.{StatusLeaves};
 ghost use Rattle.job_endings.specs.Files.{Agrees, FetchesInOrder, IsStrayAmong, SomeName};
 ghost use Rattle.rnm_engine.specs.Answer.{IsAnswer, IsJobAnswer, IsStray, files_of_job, named_files};
@@ -29,15 +29,15 @@ pub fn rnm<S: Shelf, K: Sink>(
 ) -> Status
     // What is put and the status are those of the answer over the files that the shelf holds. Where it doesn't
     // tell them, they are those of the answer over some files at each fetch.
-    ensures answer { (held : ℕ → Held) × ((n : ℕ) → Agrees (S.state shelf.old).told (held n))
-        × StatusLeaves K.took K.state sink.old (IsAnswer held (map string_bytes words.now))
+    ensures answer { (held : ℕ → ShelfFiles) × ((n : ℕ) → Agrees (S.state shelf.old).told (held n))
+        × StatusLeaves K.puts K.state sink.old (IsAnswer held (map string_bytes words.now))
         (IsStray (S.state shelf.old).faults (S.state shelf.new).faults (map string_bytes words.now)) result sink.new }
     // Without faults the whole answer is put, or memory ran out and nothing is.
-    ensures complete { (held : Held) → (S.state shelf.old).told ≡ Some held
+    ensures complete { (held : ShelfFiles) → (S.state shelf.old).told ≡ Some held
         → ¬ (Rose (S.state shelf.old).faults (S.state shelf.new).faults)
         → ¬ (Rose (K.state sink.old).faults (K.state sink.new).faults)
-        → ((result ≡ Status.NoMemory) × WroteAll K.took K.state sink.old [] sink.new)
-        ⊎ ((pieces : List (List ℕ)) × IsAnswer (λ _. held) (map string_bytes words.now) pieces result × WroteAll K.took K.state sink.old pieces sink.new) }
+        → ((result ≡ Status.NoMemory) × WroteAll K.puts K.state sink.old [] sink.new)
+        ⊎ ((pieces : List (List ℕ)) × IsAnswer (λ _. held) (map string_bytes words.now) pieces result × WroteAll K.puts K.state sink.old pieces sink.new) }
 
     // Words that are no job, and jobs without a file, take no memory.
     ensures usage { job_of_words (map string_bytes words.now) ≡ None → (result ≡ Status.Usage) ⊎ (result ≡ Status.Unwritten) }
@@ -46,7 +46,7 @@ pub fn rnm<S: Shelf, K: Sink>(
         ⊎ SomeName (TellsMissing (S.state shelf.old)) (named_files (map string_bytes words.now)) }
     ensures unwritten { result ≡ Status.Unwritten → Rose (K.state sink.old).faults (K.state sink.new).faults }
     ensures written { result ≢ Status.Unwritten → (K.state sink.new).faults ≡ (K.state sink.old).faults }
-    ensures timely { StaysTimely (K.state sink.old) (K.state sink.new) }
+    ensures timely { NoPutAfterFault (K.state sink.old) (K.state sink.new) }
 
     // No file is fetched but those that the words name, in their order and each once. What the shelf holds stays.
     ensures fetched { FetchesInOrder S.fetched shelf.old (named_files (map string_bytes words.now)) shelf.new }
@@ -67,8 +67,8 @@ fn do_job<S: Shelf, K: Sink>(
     sink: &mut K,
 ) -> Status
     requires { HoldsOf (map string_bytes words.now) job.now }
-    ensures answer { (held : ℕ → Held) × ((n : ℕ) → Agrees (S.state shelf.old).told (held n))
-        × StatusLeaves K.took K.state sink.old (IsJobAnswer held (map string_bytes words.now) job.now)
+    ensures answer { (held : ℕ → ShelfFiles) × ((n : ℕ) → Agrees (S.state shelf.old).told (held n))
+        × StatusLeaves K.puts K.state sink.old (IsJobAnswer held (map string_bytes words.now) job.now)
         (IsStrayAmong (S.state shelf.old).faults (S.state shelf.new).faults (files_of_job (map string_bytes words.now) job.now)) result sink.new }
     ensures memory { files_of_job (map string_bytes words.now) job.now ≡ [] → result ≢ Status.NoMemory }
     ensures unread { result ≡ Status.Unread → Rose (S.state shelf.old).faults (S.state shelf.new).faults

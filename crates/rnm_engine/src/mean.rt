@@ -2,7 +2,7 @@
 ghost use Rattle.std.specs.Prelude.{◌≡◌, ℕ, ◌≤◌, ◌⊎◌, List, ◌∷◌, length};
 ghost use Rattle.std.specs.Option.{option_map};
 ghost use Rattle.outside.specs.Faults.{Rose};
-ghost use Rattle.outside.specs.Shelf.{Held, TellsMissing};
+ghost use Rattle.outside.specs.Shelf.{ShelfFiles, TellsMissing};
 ghost use Rattle.job_endings.specs.Endings.{StatusLeaves};
 ghost use Rattle.job_endings.specs.Files.{Agrees, FetchesInOrder, IsStrayAmong, SomeName, file_limit, names_of};
 ghost use Rattle.rnm_engine.specs.Answer.{IsInputAnswer, IsMeanAnswer};
@@ -20,8 +20,8 @@ pub fn mean<S: Shelf, K: Sink>(
     shelf: &mut S,
     sink: &mut K,
 ) -> Status
-    ensures answer { (held : Held) × (later : Held) × Agrees (S.state shelf.old).told held × Agrees (S.state shelf.old).told later
-        × StatusLeaves K.took K.state sink.old (IsMeanAnswer held later source.now (option_map (λ name. name.now) input.entry))
+    ensures answer { (held : ShelfFiles) × (later : ShelfFiles) × Agrees (S.state shelf.old).told held × Agrees (S.state shelf.old).told later
+        × StatusLeaves K.puts K.state sink.old (IsMeanAnswer held later source.now (option_map (λ name. name.now) input.entry))
         (IsStrayAmong (S.state shelf.old).faults (S.state shelf.new).faults (source.now ∷ names_of (option_map (λ name. name.now) input.entry))) result sink.new }
     ensures unread { result ≡ Status.Unread → Rose (S.state shelf.old).faults (S.state shelf.new).faults
         ⊎ SomeName (TellsMissing (S.state shelf.old)) (source.now ∷ names_of (option_map (λ name. name.now) input.entry)) }
@@ -43,8 +43,8 @@ fn with_input<S: Shelf, K: Sink>(
     sink: &mut K,
 ) -> Status
     requires { length text.now ≤ file_limit }
-    ensures answer { (held : Held) × Agrees (S.state shelf.old).told held
-        × StatusLeaves K.took K.state sink.old (IsInputAnswer held text.now (option_map (λ name. name.now) input.entry))
+    ensures answer { (held : ShelfFiles) × Agrees (S.state shelf.old).told held
+        × StatusLeaves K.puts K.state sink.old (IsInputAnswer held text.now (option_map (λ name. name.now) input.entry))
         (IsStrayAmong (S.state shelf.old).faults (S.state shelf.new).faults (names_of (option_map (λ name. name.now) input.entry))) result sink.new }
     ensures unread { result ≡ Status.Unread → Rose (S.state shelf.old).faults (S.state shelf.new).faults
         ⊎ SomeName (TellsMissing (S.state shelf.old)) (names_of (option_map (λ name. name.now) input.entry)) }

@@ -1,7 +1,7 @@
 //! The command `run`: a source is fetched, read and run.
 ghost use Rattle.std.specs.Prelude.{◌≡◌, ℕ, ◌≤◌, ◌⊎◌, List, length};
 ghost use Rattle.outside.specs.Faults.{Rose};
-ghost use Rattle.outside.specs.Shelf.{Held, TellsMissing};
+ghost use Rattle.outside.specs.Shelf.{ShelfFiles, TellsMissing};
 ghost use Rattle.job_endings.specs.Endings.{EndsAnswered, EndsPut, EndsWith, StatusLeaves};
 ghost use Rattle.job_endings.specs.Files.{Agrees, IsStrayOf, file_limit};
 ghost use Rattle.rnm_engine.specs.Answer.{IsRunAnswer, IsSourceAnswer, last_lines, run_lines};
@@ -14,9 +14,9 @@ use outside::{Put, Shelf, Sink};
 use std::alloc::Global;
 use thin_source::Program;
 
-/// Puts the lines behind the prints of a run without faults.
+/// PutsEach the lines behind the prints of a run without faults.
 fn finish_run<K: Sink>(sink: &mut K) -> Status
-    ensures { EndsPut K.took K.state sink.old last_lines Status.Ok result sink.new }
+    ensures { EndsPut K.puts K.state sink.old last_lines Status.Ok result sink.new }
 {
     match sink.put(b"end\n") {
         Put::Done => finish(sink, b"corrected 0 0 0 0 0\n", Status::Ok),
@@ -27,7 +27,7 @@ fn finish_run<K: Sink>(sink: &mut K) -> Status
 /// Runs a thin source.
 fn run_program<K: Sink>(alloc: Global, program: &Program, sink: &mut K) -> Status
     requires { IsLawful (program_view program.now) }
-    ensures { EndsWith K.took K.state sink.old (run_lines (prints_of (program_view program.now))) Status.Ok result sink.new }
+    ensures { EndsWith K.puts K.state sink.old (run_lines (prints_of (program_view program.now))) Status.Ok result sink.new }
 {
     let Ok(variables) = thin_source::start(alloc, program) else {
         return Status::NoMemory;
@@ -41,7 +41,7 @@ fn run_program<K: Sink>(alloc: Global, program: &Program, sink: &mut K) -> Statu
 /// Runs a source text, or refuses it.
 fn run_source<K: Sink>(alloc: Global, text: &[u8], sink: &mut K) -> Status
     requires { length text.now ≤ file_limit }
-    ensures { EndsAnswered K.took K.state sink.old (IsSourceAnswer text.now) result sink.new }
+    ensures { EndsAnswered K.puts K.state sink.old (IsSourceAnswer text.now) result sink.new }
 {
     match thin_source::read(alloc, text) {
         Ok(Some(program)) => run_program(alloc, &program, sink),
@@ -52,8 +52,8 @@ fn run_source<K: Sink>(alloc: Global, text: &[u8], sink: &mut K) -> Status
 
 /// Runs the source of this name.
 pub fn run<S: Shelf, K: Sink>(alloc: Global, name: &str, shelf: &mut S, sink: &mut K) -> Status
-    ensures answer { (held : Held) × Agrees (S.state shelf.old).told held
-        × StatusLeaves K.took K.state sink.old (IsRunAnswer held name.now)
+    ensures answer { (held : ShelfFiles) × Agrees (S.state shelf.old).told held
+        × StatusLeaves K.puts K.state sink.old (IsRunAnswer held name.now)
         (IsStrayOf (S.state shelf.old).faults (S.state shelf.new).faults name.now) result sink.new }
     ensures unread { result ≡ Status.Unread → Rose (S.state shelf.old).faults (S.state shelf.new).faults
         ⊎ TellsMissing (S.state shelf.old) name.now }

@@ -12,18 +12,18 @@ use job_endings::{ROOM, Status, append, finish};
 use moduli_sets::{Moduli, Vector};
 use outside::{Put, Sink};
 
-/// Puts the residues of x, which is in range.
+/// PutsEach the residues of x, which is in range.
 pub fn encode<K: Sink>(set: &Moduli, x: i128, sink: &mut K) -> Status
     requires { IsInRange (set_of set.now) x }
-    ensures { EndsPut K.took K.state sink.old (encode_lines (set_of set.now) x) Status.Ok result sink.new }
+    ensures { EndsPut K.puts K.state sink.old (encode_lines (set_of set.now) x) Status.Ok result sink.new }
 {
     let line = numbers_line(b"", &set.residues_of(x));
     finish(sink, line.as_slice(), Status::Ok)
 }
 
-/// Puts the moduli of a set, the number of its information moduli and its range.
+/// PutsEach the moduli of a set, the number of its information moduli and its range.
 pub fn describe<K: Sink>(set: &Moduli, sink: &mut K) -> Status
-    ensures { EndsPut K.took K.state sink.old (set_lines (set_of set.now)) Status.Ok result sink.new }
+    ensures { EndsPut K.puts K.state sink.old (set_lines (set_of set.now)) Status.Ok result sink.new }
 {
     match sink.put(numbers_line(b"moduli ", &moduli_of(set)).as_slice()) {
         Put::Done => describe_range(set, sink),
@@ -33,7 +33,7 @@ pub fn describe<K: Sink>(set: &Moduli, sink: &mut K) -> Status
 
 /// The lines behind the moduli.
 fn describe_range<K: Sink>(set: &Moduli, sink: &mut K) -> Status
-    ensures { EndsPut K.took K.state sink.old (information_line (set_of set.now) ∷ (range_line (set_of set.now) ∷ [])) Status.Ok result sink.new }
+    ensures { EndsPut K.puts K.state sink.old (information_line (set_of set.now) ∷ (range_line (set_of set.now) ∷ [])) Status.Ok result sink.new }
 {
     match sink.put(information_line(set).as_slice()) {
         Put::Done => finish(sink, range_line(set).as_slice(), Status::Ok),

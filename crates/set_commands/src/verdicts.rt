@@ -16,11 +16,11 @@ use moduli_sets::{Moduli, Vector};
 use outside::Sink;
 use redundant_decoder::{Decoder, Projecting, Verdict};
 
-/// Puts what a vector stands for. It has one residue for each channel, below its modulus.
+/// PutsEach what a vector stands for. It has one residue for each channel, below its modulus.
 pub fn decode<K: Sink>(set: &Moduli, residues: &Vector, sink: &mut K) -> Status
     requires { AreResidues (set_of set.now).moduli residues.now }
     ensures { (verdict : Verdict) × IsVerdict (set_of set.now) residues.now verdict
-        × EndsPut K.took K.state sink.old (verdict_lines verdict) (verdict_status verdict) result sink.new }
+        × EndsPut K.puts K.state sink.old (verdict_lines verdict) (verdict_status verdict) result sink.new }
 {
     match Projecting::of(set).decode(residues) {
         Verdict::Clean(x) => finish(sink, clean_line(x).as_slice(), Status::Ok),

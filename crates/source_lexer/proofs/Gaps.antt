@@ -9,14 +9,14 @@ and_then_choice f true u a b c d h k = h
 and_then_choice f false true a b c d h k = k
 and_then_choice f false false a b c d h k = refl
 
--- behind the front of some bytes comes the rest
+-- after a prefix of some bytes comes the rest
 pub comment_after_append : (inside : Bool) (xs ys : List ℕ) → comment_after inside (xs ++ ys) ≡ option_and_then (λ within. comment_after within ys) (comment_after inside xs)
 comment_after_append inside [] ys = refl
 comment_after_append true (b ∷ xs) ys = comment_after_append (not (b == 10)) xs ys
 comment_after_append false (b ∷ xs) ys =
     and_then_choice (λ within. comment_after within ys) (is_blank b) (b == 35) _ _ _ _ (comment_after_append false xs ys) (comment_after_append true xs ys)
 
--- behind a front that leaves a comment open or none
+-- after a prefix that leaves a comment open or none
 pub comment_after_behind : (xs ys : List ℕ) (inside : Bool) → comment_after false xs ≡ Some inside → comment_after false (xs ++ ys) ≡ comment_after inside ys
 comment_after_behind xs ys inside h =
     comment_after_append false xs ys ∙ ap (option_and_then (λ within. comment_after within ys)) h

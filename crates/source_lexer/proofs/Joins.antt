@@ -8,7 +8,7 @@ use Rattle.source_lexer.specs.declared.lexer.LexFault.TheVariants.{BadByte, Long
 use Rattle.source_lexer.specs.Scan.{StandsNext, IsShort, ScanEnd, bad_byte, long_literal, EndsFrom, ScansFrom, Scans, IsFirstFault}
 use Rattle.source_lexer.specs.Steps.{FailsNext}
 
--- each scan of the text from a place on, put behind the tokens found, is a scan of the whole text
+-- each scan of the text from a place on, put after the tokens found, is a scan of the whole text
 abbrev pub Joins : List ℕ → ℕ → List Token → Type 0
 Joins text place found =
     (rest : List Token) (end : ScanEnd) → ScansFrom text place rest end → Scans text (found ++ rest) end

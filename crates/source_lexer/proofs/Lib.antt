@@ -1,6 +1,6 @@
 pub mod Gaps
 pub mod Joins
-pub mod LongestFronts
+pub mod LongestPrefixes
 pub mod OneScan
 pub mod PlacedTokens
 pub mod Standing

@@ -7,7 +7,7 @@ use Rattle.std.specs.Str.Parse.{AllDigits}
 use Rattle.std.proofs.lemmas.Bool.{and_parts, false≢true, leb-true}
 use Rattle.std.proofs.lemmas.Bool.Decides.{nat_tests}
 use Rattle.plain_text.specs.Digits.{IsWholeNumber}
-use Rattle.plain_text.proofs.FrontDigits.{test_from_digit}
+use Rattle.plain_text.proofs.DigitPrefix.{test_from_digit}
 use Rattle.source_lexer.specs.declared.token.TokenKind.{TokenKind}
 use Rattle.source_lexer.specs.declared.token.TokenKind.TheVariants.{Name, Number, Var, Array, Proc, Do, End, Print, Read, If, Then, Else, For, To, While, Limit, Div, Mod, Becomes, Colon, Semicolon, Comma, LeftParen, RightParen, LeftBracket, RightBracket, Dots, Plus, Minus, Star, Less, LessEqual, Greater, GreaterEqual, Equal, NotEqual}
 use Rattle.source_lexer.specs.Tokens.{fixed_text, is_name_byte, IsIdentifier, IsFixed, IsToken}

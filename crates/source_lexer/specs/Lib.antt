@@ -2,6 +2,6 @@ pub use Rattle.plain_text.specs.Digits
 pub use Rattle.plain_text.specs.Lines
 pub mod Tokens
 pub mod Scan
-pub mod Fronts
+pub mod Prefixes
 pub mod Placed
 pub mod Steps

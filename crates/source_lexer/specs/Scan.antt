@@ -13,7 +13,7 @@ use Rattle.source_lexer.specs.Tokens.{IsToken}
 abbrev pub is_blank : ℕ → Bool
 is_blank b = b == 32 || b == 9 || b == 13 || b == 10
 
--- whether a comment is open behind these bytes, which begin inside one or not: `#` opens it, LF closes it;
+-- whether a comment is open after these bytes, which begin inside one or not: `#` opens it, LF closes it;
 -- None where a byte outside of comments is neither blank nor `#`
 abbrev pub comment_after : Bool → List ℕ → Option Bool
 comment_after inside [] = Some inside
@@ -49,7 +49,7 @@ greatest_literal = 2 ^ 127 - 1
 abbrev pub IsShort : TokenKind → List ℕ → Type 0
 IsShort kind bytes = kind ≡ Number → value_of_digits bytes ≤ greatest_literal
 
--- from a place on there is a gap, and behind it stands this token, with the line on which it begins
+-- from a place on there is a gap, and after it stands this token, with the line on which it begins
 pub record StandsNext (text : List ℕ) (from : ℕ) (token : Token) : Type 0 where
   pub after : from ≤ token.start
   pub gap : IsGap (slice_range text from token.start)
@@ -62,7 +62,7 @@ pub data ScanEnd : Type 0 where
   bad_byte : ℕ → ScanEnd
   long_literal : ℕ → ScanEnd
 
--- the end of a scan behind whose last token comes the place `from`
+-- the end of a scan after whose last token comes the place `from`
 abbrev pub EndsFrom : List ℕ → ℕ → ScanEnd → Type 0
 EndsFrom text from whole = IsLastGap (drop from text)
 EndsFrom text from (bad_byte line) = (place : ℕ) × (from ≤ place) × IsGap (slice_range text from place) × BeginsNoToken text place × (line ≡ line_at text place)

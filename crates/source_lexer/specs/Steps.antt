@@ -5,7 +5,7 @@ use Rattle.source_lexer.specs.declared.lexer.LexFault.{LexFault}
 use Rattle.source_lexer.specs.declared.lexer.LexFault.TheVariants.{BadByte, LongLiteral, NoMemory}
 use Rattle.source_lexer.specs.Scan.{StandsNext, IsShort, EndsFrom, whole, bad_byte, long_literal}
 
--- the token stands next from a place on and is not too long; or the text ends behind a gap
+-- the token stands next from a place on and is not too long; or the text ends after a gap
 abbrev pub GoesOn : List ℕ → ℕ → Option Token → Type 0
 GoesOn text from None = EndsFrom text from whole
 GoesOn text from (Some token) = StandsNext text from token × IsShort token.kind (slice_range text token.start token.end)

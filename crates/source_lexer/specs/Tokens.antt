@@ -45,7 +45,7 @@ fixed_text GreaterEqual = Some (codes ">=")
 fixed_text Equal = Some (codes "=")
 fixed_text NotEqual = Some (codes "<>")
 
--- a byte of a name behind its first: a letter, a digit or `_`
+-- a byte of a name after its first: a letter, a digit or `_`
 abbrev pub is_name_byte : ℕ → Bool
 is_name_byte b = is_ascii_alphanumeric b || b == 95
 

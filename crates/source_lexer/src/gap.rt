@@ -1,4 +1,4 @@
-ghost use Rattle.source_lexer.specs.Fronts.{IsLongestGap};
+ghost use Rattle.source_lexer.specs.Prefixes.{IsLongestGap};
 ghost use Rattle.source_lexer.specs.Scan.{is_blank};
 ghost use Rattle.std.specs.Prelude.{◌≡◌};
 
@@ -9,7 +9,7 @@ fn is_blank(byte: u8) -> bool
     matches!(byte, b' ' | b'\t' | b'\r' | b'\n')
 }
 
-/// How many bytes at the front of a text are blanks and comments.
+/// How many bytes at the start of a text are blanks and comments.
 pub fn gap_len(text: &[u8]) -> usize
     ensures { IsLongestGap text.now result }
 {

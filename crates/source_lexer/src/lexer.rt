@@ -3,7 +3,7 @@ ghost use Rattle.plain_text.specs.Lines.{line_at};
 ghost use Rattle.source_lexer.specs.declared.lexer.LexFault.TheVariants.{NoMemory};
 ghost use Rattle.source_lexer.specs.declared.token.Token.{Token};
 ghost use Rattle.source_lexer.specs.declared.token.TokenKind.TheVariants.{Number};
-ghost use Rattle.source_lexer.specs.Fronts.{IsFrontToken};
+ghost use Rattle.source_lexer.specs.Prefixes.{IsPrefixToken};
 ghost use Rattle.source_lexer.specs.Scan.{IsFirstFault, IsShort, ScanEnd, Scans, greatest_literal, whole};
 ghost use Rattle.source_lexer.specs.Steps.{FailsNext, GoesOn};
 ghost use Rattle.source_lexer.specs.Tokens.{IsToken};
@@ -39,9 +39,9 @@ impl<T: Drop> From<AllocFailed<T>> for LexFault {
     }
 }
 
-/// The longest token at the front of a text, and its length.
+/// The longest token at the start of a text, and its length.
 fn token_at(text: &[u8]) -> Option<(TokenKind, usize)>
-    ensures { IsFrontToken text.now result }
+    ensures { IsPrefixToken text.now result }
 {
     let first = text.first()?;
     if first.is_ascii_alphabetic() {

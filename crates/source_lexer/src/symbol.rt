@@ -1,9 +1,9 @@
-ghost use Rattle.source_lexer.specs.Fronts.{BeginsWithSymbol, HasNoPair, IsFrontToken, IsKindOf, IsPair};
+ghost use Rattle.source_lexer.specs.Prefixes.{BeginsWithSymbol, HasNoPair, IsPrefixToken, IsKindOf, IsPair};
 ghost use Rattle.std.specs.Prelude.{MatchOption, [], ◌∷◌};
 
 use crate::token::TokenKind;
 
-/// The symbol of two bytes at the front of a text.
+/// The symbol of two bytes at the start of a text.
 fn pair_at(text: &[u8]) -> Option<TokenKind>
     requires { BeginsWithSymbol text.now }
     ensures { MatchOption result (HasNoPair text.now) (IsPair text.now) }
@@ -40,10 +40,10 @@ fn byte_symbol(byte: u8) -> Option<TokenKind>
     }
 }
 
-/// The longest symbol at the front of a text, and its length.
+/// The longest symbol at the start of a text, and its length.
 pub fn symbol_at(text: &[u8]) -> Option<(TokenKind, usize)>
     requires { BeginsWithSymbol text.now }
-    ensures { IsFrontToken text.now result }
+    ensures { IsPrefixToken text.now result }
 {
     match pair_at(text) {
         Some(kind) => Some((kind, 2)),

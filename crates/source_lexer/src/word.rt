@@ -4,7 +4,7 @@ ghost use Rattle.source_lexer.specs.Tokens.{IsIdentifier, IsToken, is_name_byte}
 
 use crate::token::TokenKind;
 
-/// How many letters, digits and `_` stand at the front of a text.
+/// How many letters, digits and `_` stand at the start of a text.
 pub fn name_len(text: &[u8]) -> usize
     ensures { result ≡ length (take_while is_name_byte text.now) }
 {

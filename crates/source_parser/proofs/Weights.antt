@@ -1,24 +1,24 @@
--- How many weighty symbols there are before and behind what is read.
+-- How many terminals with weight there are before and after what is read.
 use Rattle.std.proofs.Common.{◌≡◌, ℕ, suc, ◌≤◌, true, List, ◌∷◌, refl, arith}
 use Rattle.source_lexer.specs.declared.token.TokenKind.{TokenKind}
 use Rattle.source_tree.specs.declared.expression.Operator.{Operator}
 use Rattle.source_tree.specs.declared.expression.Expr.{Expr}
-use Rattle.source_parser.specs.Symbols.{Symbol, mark}
-use Rattle.source_parser.specs.Grammar.{Level, Joins, plus, minus, times, divided, remainder, ReadsExpr, number, name, element, negated, bracketed, one_factor, multiplied, one_term, added, is_weighty, weight}
+use Rattle.source_parser.specs.Terminals.{Terminal, fixed}
+use Rattle.source_parser.specs.Grammar.{Level, Joins, plus, minus, times, divided, remainder, ReadsExpr, number, name, element, negated, bracketed, one_factor, multiplied, one_term, added, is_weighted, weight}
 
-pub weight_weighty : (kind : TokenKind) (line : ℕ) (symbols : List Symbol) → is_weighty kind ≡ true → weight (mark kind line ∷ symbols) ≡ suc (weight symbols)
-weight_weighty kind line symbols heavy = rw heavy refl
+pub weight_weighted : (kind : TokenKind) (line : ℕ) (terminals : List Terminal) → is_weighted kind ≡ true → weight (fixed kind line ∷ terminals) ≡ suc (weight terminals)
+weight_weighted kind line terminals heavy = rw heavy refl
 
 -- an operator has weight
-pub weight_joins : {level : Level} {sign : TokenKind} {op : Operator} → Joins level sign op → (line : ℕ) (symbols : List Symbol) → weight (mark sign line ∷ symbols) ≡ suc (weight symbols)
-weight_joins plus line symbols = refl
-weight_joins minus line symbols = refl
-weight_joins times line symbols = refl
-weight_joins divided line symbols = refl
-weight_joins remainder line symbols = refl
+pub weight_joins : {level : Level} {sign : TokenKind} {op : Operator} → Joins level sign op → (line : ℕ) (terminals : List Terminal) → weight (fixed sign line ∷ terminals) ≡ suc (weight terminals)
+weight_joins plus line terminals = refl
+weight_joins minus line terminals = refl
+weight_joins times line terminals = refl
+weight_joins divided line terminals = refl
+weight_joins remainder line terminals = refl
 
--- behind an expression there is no more weight than from its start on
-pub weight_behind : {level : Level} {symbols rest : List Symbol} {e : Expr} → ReadsExpr level symbols e rest → weight rest ≤ weight symbols
+-- after an expression there is no more weight than from its start on
+pub weight_behind : {level : Level} {terminals rest : List Terminal} {e : Expr} → ReadsExpr level terminals e rest → weight rest ≤ weight terminals
 weight_behind number = omega arith
 weight_behind name = omega arith
 weight_behind (element index) = omega (arith, weight_behind index)

@@ -1,7 +1,7 @@
 pub use Rattle.plain_text.specs.Digits
 pub use Rattle.source_lexer.specs.Tokens
 pub use Rattle.source_lexer.specs.Scan
-pub mod Symbols
+pub mod Terminals
 pub mod Grammar
-pub mod Fronts
+pub mod Prefixes
 pub mod Parsed

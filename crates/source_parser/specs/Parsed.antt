@@ -1,21 +1,21 @@
--- What the tokens of a text are told to be.
+-- What the tokens of a text are reported to be.
 use Rattle.std.specs.Prelude.{◌≡◌, ℕ, ◌≤◌, List, length, Result, Ok, Err}
 use Rattle.source_lexer.specs.declared.token.Token.{Token}
 use Rattle.source_tree.specs.declared.declaration.Program.{Program}
 use Rattle.source_parser.specs.declared.fault.ParseFault.{ParseFault}
 use Rattle.source_parser.specs.declared.fault.ParseFault.TheVariants.{Stops, Deep, NoMemory}
-use Rattle.source_parser.specs.Symbols.{symbols_of}
+use Rattle.source_parser.specs.Terminals.{terminals_of}
 use Rattle.source_parser.specs.Grammar.{Spells}
 
 -- the tokens spell the program, within the limits of nesting
 abbrev pub IsSpelled : List ℕ → List Token → Program → Type 0
-IsSpelled text tokens program = Spells 64 200 (symbols_of text tokens) program
+IsSpelled text tokens program = Spells 64 200 (terminals_of text tokens) program
 
 -- the tokens spell no program within the limits of nesting
 abbrev pub SpellsNothing : List ℕ → List Token → Type 0
 SpellsNothing text tokens = (program : Program) → IsSpelled text tokens program → ⊥
 
--- The one program that the tokens spell. Or there is none, and the place of a token is told, or, where more tokens
+-- The one program that the tokens spell. Or there is none, and the place of a token is reported, or, where more tokens
 -- would be wanted, their number.
 abbrev pub IsParsed : List ℕ → List Token → Result Program ParseFault → Type 0
 IsParsed text tokens (Ok program) = IsSpelled text tokens program × ((other : Program) → IsSpelled text tokens other → other ≡ program)

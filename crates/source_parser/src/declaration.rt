@@ -1,8 +1,8 @@
 ghost use Rattle.std.specs.Prelude.{◌≤◌, ◌∷◌, length};
 ghost use Rattle.source_lexer.specs.declared.token.TokenKind.TheVariants.{Array as ArrayToken, Proc as ProcToken, Var as VarToken};
 ghost use Rattle.source_parser.specs.Grammar.{ReadsAll, ReadsBound, ReadsDeclaration, ReadsListed, ReadsLocal, ReadsParam, ReadsRange};
-ghost use Rattle.source_parser.specs.Symbols.{mark};
-ghost use Rattle.source_parser.specs.Fronts.{Anything, BeginsNoDeclaration, Consumes, ConsumesNext, NotMark, Tells, TellsNext};
+ghost use Rattle.source_parser.specs.Terminals.{fixed};
+ghost use Rattle.source_parser.specs.Prefixes.{Anything, BeginsNoDeclaration, Consumes, ConsumesNext, NotFixed, Parses, ParsesNext};
 
 use crate::fault::Fault;
 use crate::reader::Reader;
@@ -13,11 +13,11 @@ use sqlite_items::Items;
 use std::alloc::Global;
 
 /// How many of `if`, `for` and `while` may be open at once.
-pub const DEPTH: usize = 64;
+pub const DEPTH_LIMIT: usize = 64;
 
 /// Declarations, as many as stand there.
 pub fn declarations(alloc: Global, reader: &mut Reader<'_>) -> Result<Items<Declaration>, Fault>
-    ensures value { Tells (ReadsAll (ReadsDeclaration 64 200)) BeginsNoDeclaration reader.old result reader.new }
+    ensures value { Parses (ReadsAll (ReadsDeclaration 64 200)) BeginsNoDeclaration reader.old result reader.new }
     ensures shorter { length reader.new ≤ length reader.old }
 {
     let mut found = Items::new(alloc);
@@ -29,7 +29,7 @@ pub fn declarations(alloc: Global, reader: &mut Reader<'_>) -> Result<Items<Decl
 
 /// A declaration, where one begins.
 fn declaration(alloc: Global, reader: &mut Reader<'_>) -> Result<Option<Declaration>, Fault>
-    ensures value { TellsNext (ReadsDeclaration 64 200) BeginsNoDeclaration reader.old result reader.new }
+    ensures value { ParsesNext (ReadsDeclaration 64 200) BeginsNoDeclaration reader.old result reader.new }
     ensures shorter { ConsumesNext reader.old result reader.new }
 {
     if let Some(line) = reader.take(TokenKind::Var) {
@@ -44,9 +44,9 @@ fn declaration(alloc: Global, reader: &mut Reader<'_>) -> Result<Option<Declarat
     Ok(None)
 }
 
-/// Behind `var`: `name: range;`
+/// After `var`: `name: range;`
 fn variable(alloc: Global, reader: &mut Reader<'_>, line: u32) -> Result<Declaration, Fault>
-    ensures value { Tells (λ symbols. ReadsDeclaration 64 200 (mark VarToken line ∷ symbols)) Anything reader.old result reader.new }
+    ensures value { Parses (λ terminals. ReadsDeclaration 64 200 (fixed VarToken line ∷ terminals)) Anything reader.old result reader.new }
     ensures shorter { Consumes reader.old result reader.new }
 {
     let Param { name, range } = param(alloc, reader)?;
@@ -54,9 +54,9 @@ fn variable(alloc: Global, reader: &mut Reader<'_>, line: u32) -> Result<Declara
     Ok(Declaration::Var { name, range, line })
 }
 
-/// Behind `array`: `name[length]: range;`
+/// After `array`: `name[length]: range;`
 fn array(alloc: Global, reader: &mut Reader<'_>, line: u32) -> Result<Declaration, Fault>
-    ensures value { Tells (λ symbols. ReadsDeclaration 64 200 (mark ArrayToken line ∷ symbols)) Anything reader.old result reader.new }
+    ensures value { Parses (λ terminals. ReadsDeclaration 64 200 (fixed ArrayToken line ∷ terminals)) Anything reader.old result reader.new }
     ensures shorter { Consumes reader.old result reader.new }
 {
     let name = reader.expect_name(alloc)?;
@@ -74,9 +74,9 @@ fn array(alloc: Global, reader: &mut Reader<'_>, line: u32) -> Result<Declaratio
     })
 }
 
-/// Behind `proc`: `name(params) locals do statements end`.
+/// After `proc`: `name(params) locals do statements end`.
 fn procedure(alloc: Global, reader: &mut Reader<'_>, line: u32) -> Result<Declaration, Fault>
-    ensures value { Tells (λ symbols. ReadsDeclaration 64 200 (mark ProcToken line ∷ symbols)) Anything reader.old result reader.new }
+    ensures value { Parses (λ terminals. ReadsDeclaration 64 200 (fixed ProcToken line ∷ terminals)) Anything reader.old result reader.new }
     ensures shorter { Consumes reader.old result reader.new }
 {
     let name = reader.expect_name(alloc)?;
@@ -84,7 +84,7 @@ fn procedure(alloc: Global, reader: &mut Reader<'_>, line: u32) -> Result<Declar
     let params = params(alloc, reader)?;
     let locals = locals(alloc, reader)?;
     reader.expect(TokenKind::Do)?;
-    let body = statements(alloc, reader, DEPTH)?;
+    let body = statements(alloc, reader, DEPTH_LIMIT)?;
     reader.expect(TokenKind::End)?;
     Ok(Declaration::Proc {
         name,
@@ -95,9 +95,9 @@ fn procedure(alloc: Global, reader: &mut Reader<'_>, line: u32) -> Result<Declar
     })
 }
 
-/// Behind `(`: parameters with commas between them, or none, and `)`.
+/// After `(`: parameters with commas between them, or none, and `)`.
 fn params(alloc: Global, reader: &mut Reader<'_>) -> Result<Items<Param>, Fault>
-    ensures value { Tells (ReadsListed ReadsParam) Anything reader.old result reader.new }
+    ensures value { Parses (ReadsListed ReadsParam) Anything reader.old result reader.new }
     ensures shorter { Consumes reader.old result reader.new }
 {
     let mut found = Items::new(alloc);
@@ -114,7 +114,7 @@ fn params(alloc: Global, reader: &mut Reader<'_>) -> Result<Items<Param>, Fault>
 
 /// Locals, as many as stand there.
 fn locals(alloc: Global, reader: &mut Reader<'_>) -> Result<Items<Local>, Fault>
-    ensures value { Tells (ReadsAll ReadsLocal) (NotMark VarToken) reader.old result reader.new }
+    ensures value { Parses (ReadsAll ReadsLocal) (NotFixed VarToken) reader.old result reader.new }
     ensures shorter { length reader.new ≤ length reader.old }
 {
     let mut found = Items::new(alloc);
@@ -128,7 +128,7 @@ fn locals(alloc: Global, reader: &mut Reader<'_>) -> Result<Items<Local>, Fault>
 
 /// `name: range`
 fn param(alloc: Global, reader: &mut Reader<'_>) -> Result<Param, Fault>
-    ensures value { Tells ReadsParam Anything reader.old result reader.new }
+    ensures value { Parses ReadsParam Anything reader.old result reader.new }
     ensures shorter { Consumes reader.old result reader.new }
 {
     let name = reader.expect_name(alloc)?;
@@ -139,7 +139,7 @@ fn param(alloc: Global, reader: &mut Reader<'_>) -> Result<Param, Fault>
 
 /// `low..high`
 fn range(reader: &mut Reader<'_>) -> Result<Range, Fault>
-    ensures value { Tells ReadsRange Anything reader.old result reader.new }
+    ensures value { Parses ReadsRange Anything reader.old result reader.new }
     ensures shorter { Consumes reader.old result reader.new }
 {
     let low = bound(reader)?;
@@ -148,9 +148,9 @@ fn range(reader: &mut Reader<'_>) -> Result<Range, Fault>
     Ok(Range { low, high })
 }
 
-/// A number, behind a minus or without one.
+/// A number, after a minus or without one.
 fn bound(reader: &mut Reader<'_>) -> Result<i128, Fault>
-    ensures value { Tells ReadsBound Anything reader.old result reader.new }
+    ensures value { Parses ReadsBound Anything reader.old result reader.new }
     ensures shorter { Consumes reader.old result reader.new }
 {
     if reader.take(TokenKind::Minus).is_none() {

@@ -1,7 +1,7 @@
 ghost use Rattle.std.specs.Prelude.{◌≡◌, ◌+◌, ◌≤◌, ◌∷◌, IfOk, OnOk, length};
 ghost use Rattle.source_parser.specs.Grammar.{factor, term, sum, weight, ReadsWithin, ReadsOutermost};
-ghost use Rattle.source_parser.specs.Symbols.{word};
-ghost use Rattle.source_parser.specs.Fronts.{Consumes, ConsumesNext, Ends, IsMark, Tells, TakesOperator, TakesWeighty};
+ghost use Rattle.source_parser.specs.Terminals.{identifier};
+ghost use Rattle.source_parser.specs.Prefixes.{Consumes, ConsumesNext, Ends, IsFixed, Parses, TakesOperator, TakesWeighted};
 ghost use Rattle.source_tree.specs.declared.expression.Expr.{Binary};
 
 use crate::fault::Fault;
@@ -12,27 +12,27 @@ use sqlite_items::Boxed;
 use std::alloc::{AllocError, Global};
 
 /// How many of `+`, `-`, `*`, `div`, `mod`, `(` and `[` an outermost expression may have.
-const WIDTH: usize = 200;
+const WEIGHT_LIMIT: usize = 200;
 
 /// An expression that isn't inside another.
 pub fn expr(alloc: Global, reader: &mut Reader<'_>) -> Result<Expr, Fault>
-    ensures value { Tells (ReadsOutermost 200) (Ends sum) reader.old result reader.new }
+    ensures value { Parses (ReadsOutermost 200) (Ends sum) reader.old result reader.new }
     ensures shorter { Consumes reader.old result reader.new }
 {
-    let mut allowed = WIDTH;
-    sum(alloc, reader, &mut allowed)
+    let mut weight_left = WEIGHT_LIMIT;
+    sum(alloc, reader, &mut weight_left)
 }
 
 /// Terms with `+` and `-` between them, as many as stand there.
 #[cycle(expression)]
-fn sum(alloc: Global, reader: &mut Reader<'_>, allowed: &mut usize) -> Result<Expr, Fault>
-    ensures value { Tells (ReadsWithin sum allowed.old) (Ends sum) reader.old result reader.new }
-    ensures spent { OnOk result (weight reader.old + allowed.new ≡ weight reader.new + allowed.old) }
+fn sum(alloc: Global, reader: &mut Reader<'_>, weight_left: &mut usize) -> Result<Expr, Fault>
+    ensures value { Parses (ReadsWithin sum weight_left.old) (Ends sum) reader.old result reader.new }
+    ensures weight_paid { OnOk result (weight reader.old + weight_left.new ≡ weight reader.new + weight_left.old) }
     ensures shorter { Consumes reader.old result reader.new }
 {
-    let mut left = term(alloc, reader, allowed)?;
-    while let Some((operator, line)) = sign_of_sum(reader, allowed)? {
-        let right = term(alloc, reader, allowed)?;
+    let mut left = term(alloc, reader, weight_left)?;
+    while let Some((operator, line)) = sign_of_sum(reader, weight_left)? {
+        let right = term(alloc, reader, weight_left)?;
         left = joined(alloc, left, operator, right, line)?;
     }
     Ok(left)
@@ -40,33 +40,33 @@ fn sum(alloc: Global, reader: &mut Reader<'_>, allowed: &mut usize) -> Result<Ex
 
 /// Factors with `*`, `div` and `mod` between them, as many as stand there.
 #[cycle(expression)]
-fn term(alloc: Global, reader: &mut Reader<'_>, allowed: &mut usize) -> Result<Expr, Fault>
-    ensures value { Tells (ReadsWithin term allowed.old) (Ends term) reader.old result reader.new }
-    ensures spent { OnOk result (weight reader.old + allowed.new ≡ weight reader.new + allowed.old) }
+fn term(alloc: Global, reader: &mut Reader<'_>, weight_left: &mut usize) -> Result<Expr, Fault>
+    ensures value { Parses (ReadsWithin term weight_left.old) (Ends term) reader.old result reader.new }
+    ensures weight_paid { OnOk result (weight reader.old + weight_left.new ≡ weight reader.new + weight_left.old) }
     ensures shorter { Consumes reader.old result reader.new }
 {
-    let mut left = factor(alloc, reader, allowed)?;
-    while let Some((operator, line)) = sign_of_term(reader, allowed)? {
-        let right = factor(alloc, reader, allowed)?;
+    let mut left = factor(alloc, reader, weight_left)?;
+    while let Some((operator, line)) = sign_of_term(reader, weight_left)? {
+        let right = factor(alloc, reader, weight_left)?;
         left = joined(alloc, left, operator, right, line)?;
     }
     Ok(left)
 }
 
-/// A number, a name, an element, or an expression behind `-` or in brackets.
+/// A number, a name, an element, or an expression after `-` or in brackets.
 #[cycle(expression)]
-fn factor(alloc: Global, reader: &mut Reader<'_>, allowed: &mut usize) -> Result<Expr, Fault>
-    ensures value { Tells (ReadsWithin factor allowed.old) (Ends factor) reader.old result reader.new }
-    ensures spent { OnOk result (weight reader.old + allowed.new ≡ weight reader.new + allowed.old) }
+fn factor(alloc: Global, reader: &mut Reader<'_>, weight_left: &mut usize) -> Result<Expr, Fault>
+    ensures value { Parses (ReadsWithin factor weight_left.old) (Ends factor) reader.old result reader.new }
+    ensures weight_paid { OnOk result (weight reader.old + weight_left.new ≡ weight reader.new + weight_left.old) }
     ensures shorter { Consumes reader.old result reader.new }
 {
-    if let Some(line) = weighty(reader, TokenKind::Minus, allowed)? {
-        let operand = factor(alloc, reader, allowed)?;
+    if let Some(line) = take_weighted(reader, TokenKind::Minus, weight_left)? {
+        let operand = factor(alloc, reader, weight_left)?;
         let operand = Boxed::new(alloc, operand)?;
         return Ok(Expr::Neg { operand, line });
     }
-    if weighty(reader, TokenKind::LeftParen, allowed)?.is_some() {
-        let inner = sum(alloc, reader, allowed)?;
+    if take_weighted(reader, TokenKind::LeftParen, weight_left)?.is_some() {
+        let inner = sum(alloc, reader, weight_left)?;
         reader.expect(TokenKind::RightParen)?;
         return Ok(inner);
     }
@@ -74,43 +74,43 @@ fn factor(alloc: Global, reader: &mut Reader<'_>, allowed: &mut usize) -> Result
         return Ok(Expr::Number { value, line });
     }
     let name = reader.expect_name(alloc)?;
-    variable(alloc, reader, allowed, name)
+    variable(alloc, reader, weight_left, name)
 }
 
-/// Behind a name: an index, or nothing.
+/// After a name: an index, or nothing.
 #[cycle(expression)]
 fn variable(
     alloc: Global,
     reader: &mut Reader<'_>,
-    allowed: &mut usize,
+    weight_left: &mut usize,
     name: Name,
 ) -> Result<Expr, Fault>
-    ensures value { Tells (λ symbols. ReadsWithin factor allowed.old (word name ∷ symbols)) (Ends factor) reader.old result reader.new }
-    ensures spent { OnOk result (weight reader.old + allowed.new ≡ weight reader.new + allowed.old) }
+    ensures value { Parses (λ terminals. ReadsWithin factor weight_left.old (identifier name ∷ terminals)) (Ends factor) reader.old result reader.new }
+    ensures weight_paid { OnOk result (weight reader.old + weight_left.new ≡ weight reader.new + weight_left.old) }
     ensures shorter { length reader.new ≤ length reader.old }
 {
-    if weighty(reader, TokenKind::LeftBracket, allowed)?.is_none() {
+    if take_weighted(reader, TokenKind::LeftBracket, weight_left)?.is_none() {
         return Ok(Expr::Name(name));
     }
-    let index = sum(alloc, reader, allowed)?;
+    let index = sum(alloc, reader, weight_left)?;
     reader.expect(TokenKind::RightBracket)?;
     let index = Boxed::new(alloc, index)?;
     Ok(Expr::Element { name, index })
 }
 
 /// The line of a keyword or symbol of which only so many are allowed, which is read, where it stands next.
-fn weighty(
+fn take_weighted(
     reader: &mut Reader<'_>,
     kind: TokenKind,
-    allowed: &mut usize,
+    weight_left: &mut usize,
 ) -> Result<Option<u32>, Fault>
-    requires { IsMark kind }
-    ensures value { TakesWeighty kind reader.old allowed.old result reader.new allowed.new }
+    requires { IsFixed kind }
+    ensures value { TakesWeighted kind reader.old weight_left.old result reader.new weight_left.new }
     ensures shorter { ConsumesNext reader.old result reader.new }
 {
-    let found = reader.take_allowed(kind, *allowed)?;
+    let found = reader.take_within(kind, *weight_left)?;
     if found.is_some() {
-        *allowed -= 1;
+        *weight_left -= 1;
     }
     Ok(found)
 }
@@ -118,15 +118,15 @@ fn weighty(
 /// `+` or `-`, with its line.
 fn sign_of_sum(
     reader: &mut Reader<'_>,
-    allowed: &mut usize,
+    weight_left: &mut usize,
 ) -> Result<Option<(Operator, u32)>, Fault>
-    ensures value { TakesOperator sum reader.old allowed.old result reader.new allowed.new }
+    ensures value { TakesOperator sum reader.old weight_left.old result reader.new weight_left.new }
     ensures shorter { ConsumesNext reader.old result reader.new }
 {
-    if let Some(line) = weighty(reader, TokenKind::Plus, allowed)? {
+    if let Some(line) = take_weighted(reader, TokenKind::Plus, weight_left)? {
         return Ok(Some((Operator::Add, line)));
     }
-    if let Some(line) = weighty(reader, TokenKind::Minus, allowed)? {
+    if let Some(line) = take_weighted(reader, TokenKind::Minus, weight_left)? {
         return Ok(Some((Operator::Sub, line)));
     }
     Ok(None)
@@ -135,18 +135,18 @@ fn sign_of_sum(
 /// `*`, `div` or `mod`, with its line.
 fn sign_of_term(
     reader: &mut Reader<'_>,
-    allowed: &mut usize,
+    weight_left: &mut usize,
 ) -> Result<Option<(Operator, u32)>, Fault>
-    ensures value { TakesOperator term reader.old allowed.old result reader.new allowed.new }
+    ensures value { TakesOperator term reader.old weight_left.old result reader.new weight_left.new }
     ensures shorter { ConsumesNext reader.old result reader.new }
 {
-    if let Some(line) = weighty(reader, TokenKind::Star, allowed)? {
+    if let Some(line) = take_weighted(reader, TokenKind::Star, weight_left)? {
         return Ok(Some((Operator::Mul, line)));
     }
-    if let Some(line) = weighty(reader, TokenKind::Div, allowed)? {
+    if let Some(line) = take_weighted(reader, TokenKind::Div, weight_left)? {
         return Ok(Some((Operator::Div, line)));
     }
-    if let Some(line) = weighty(reader, TokenKind::Mod, allowed)? {
+    if let Some(line) = take_weighted(reader, TokenKind::Mod, weight_left)? {
         return Ok(Some((Operator::Mod, line)));
     }
     Ok(None)

@@ -6,8 +6,8 @@ use std::alloc::AllocError;
 /// Why tokens are no program. Tokens are numbered from 0.
 #[derive(Clone, Copy, Debug, PartialEq, Eq)]
 pub enum ParseFault {
-    /// The tokens before this one are the front of a program, and those through it are not. At the number of
-    /// tokens: all of them are the front of a program, and no program.
+    /// The tokens before this one are a prefix of a program, and those through it are not. At the number of
+    /// tokens: all of them are a prefix of a program, and no program.
     Stops(usize),
     /// This token is the first that nests too deep: the 65th open `if`, `for` or `while`, or the 201st of the
     /// tokens `+`, `-`, `*`, `div`, `mod`, `(` and `[` in one outermost expression.

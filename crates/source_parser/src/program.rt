@@ -1,10 +1,10 @@
 ghost use Rattle.std.specs.Prelude.{◌≡◌, ◌≤◌, [], OnOk, length};
 ghost use Rattle.source_parser.specs.Grammar.{ReadsProgram};
-ghost use Rattle.source_parser.specs.Fronts.{AtEnd, Tells};
+ghost use Rattle.source_parser.specs.Prefixes.{AtEnd, Parses};
 ghost use Rattle.source_lexer.specs.Scan.{Scans, whole};
 ghost use Rattle.source_parser.specs.Parsed.{IsParsed};
 
-use crate::declaration::{DEPTH, declarations};
+use crate::declaration::{DEPTH_LIMIT, declarations};
 use crate::fault::{Fault, ParseFault};
 use crate::reader::Reader;
 use crate::statement::statements;
@@ -13,7 +13,7 @@ use source_tree::Program;
 use std::alloc::Global;
 
 /// The program that the tokens of a text spell. Otherwise the first token at fault, want of memory aside; a token
-/// that no program goes on with is told as that before it is told as too deep.
+/// that no program goes on with is reported as that before it is reported as too deep.
 pub fn parse(alloc: Global, text: &[u8], tokens: &[Token]) -> Result<Program, ParseFault>
     requires { Scans text.now tokens.now whole }
     ensures { IsParsed text.now tokens.now result }
@@ -33,12 +33,12 @@ pub fn parse(alloc: Global, text: &[u8], tokens: &[Token]) -> Result<Program, Pa
 
 /// Declarations, and then statements up to the end.
 fn program(alloc: Global, reader: &mut Reader<'_>) -> Result<Program, Fault>
-    ensures value { Tells (ReadsProgram 64 200) AtEnd reader.old result reader.new }
+    ensures value { Parses (ReadsProgram 64 200) AtEnd reader.old result reader.new }
     ensures whole { OnOk result (reader.new ≡ []) }
     ensures shorter { length reader.new ≤ length reader.old }
 {
     let declarations = declarations(alloc, reader)?;
-    let statements = statements(alloc, reader, DEPTH)?;
+    let statements = statements(alloc, reader, DEPTH_LIMIT)?;
     if reader.len() > 0 {
         return Err(Fault::Stops);
     }

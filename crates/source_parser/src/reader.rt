@@ -2,8 +2,8 @@ ghost use Rattle.std.specs.Prelude.{◌≡◌, ◌<◌, ◌≤◌, ◌≤ℤ◌,
 ghost use Rattle.std.specs.List.{All};
 ghost use Rattle.source_lexer.specs.Placed.{IsPlaced};
 ghost use Rattle.source_parser.specs.declared.fault.Fault.TheVariants.{Stops};
-ghost use Rattle.source_parser.specs.Symbols.{symbols_of, front_line};
-ghost use Rattle.source_parser.specs.Fronts.{Consumes, ConsumesNext, IsMark, TakesMark, TakesNumeral, TakesWord, TakesAllowed, ExpectsMark, ExpectsNumeral, ExpectsWord};
+ghost use Rattle.source_parser.specs.Terminals.{terminals_of, first_line};
+ghost use Rattle.source_parser.specs.Prefixes.{Consumes, ConsumesNext, IsFixed, TakesFixed, TakesLiteral, TakesIdentifier, TakesWithin, ExpectsFixed, ExpectsLiteral, ExpectsIdentifier};
 
 use crate::fault::Fault;
 use plain_text::number_up_to;
@@ -27,11 +27,11 @@ impl<'a> Model for Reader<'a> {
     ghost use Rattle.std.specs.Prelude.{List};
     ghost use Rattle.std.specs.List.{All};
     ghost use Rattle.source_lexer.specs.Placed.{IsPlaced};
-    ghost use Rattle.source_parser.specs.Symbols.{Symbol, symbols_of};
+    ghost use Rattle.source_parser.specs.Terminals.{Terminal, terminals_of};
 
-    ghost Value = { List Symbol };
+    ghost Value = { List Terminal };
 
-    ghost view = { λ reader. symbols_of reader.text.now reader.rest.now };
+    ghost view = { λ reader. terminals_of reader.text.now reader.rest.now };
 
     ghost invariant = { λ reader. All (IsPlaced reader.text.now) reader.rest.now };
 }
@@ -39,7 +39,7 @@ impl<'a> Model for Reader<'a> {
 impl<'a> Reader<'a> {
     pub fn new(text: &'a [u8], tokens: &'a [Token]) -> Reader<'a>
         requires { All (IsPlaced text.now) tokens.now }
-        ensures { result ≡ symbols_of text.now tokens.now }
+        ensures { result ≡ terminals_of text.now tokens.now }
     {
         Reader { text, rest: tokens }
     }
@@ -53,7 +53,7 @@ impl<'a> Reader<'a> {
 
     /// The line of the next token; 0 at the end.
     pub fn line(&self) -> u32
-        ensures { result ≡ front_line self.now }
+        ensures { result ≡ first_line self.now }
     {
         match self.rest.first() {
             Some(token) => token.line,
@@ -63,8 +63,8 @@ impl<'a> Reader<'a> {
 
     /// The line of a keyword or symbol, which is read, where it stands next.
     pub fn take(&mut self, kind: TokenKind) -> Option<u32>
-        requires { IsMark kind }
-        ensures value { TakesMark kind self.old result self.new }
+        requires { IsFixed kind }
+        ensures value { TakesFixed kind self.old result self.new }
         ensures shorter { MatchOption result (length self.new ≤ length self.old) (λ _. length self.new < length self.old) }
     {
         let (token, rest) = self.rest.split_first()?;
@@ -77,8 +77,8 @@ impl<'a> Reader<'a> {
 
     /// The same, of a keyword or symbol that must stand next.
     pub fn expect(&mut self, kind: TokenKind) -> Result<u32, Fault>
-        requires { IsMark kind }
-        ensures value { ExpectsMark kind self.old result self.new }
+        requires { IsFixed kind }
+        ensures value { ExpectsFixed kind self.old result self.new }
         ensures stops { IfErr result (λ fault. fault ≡ Stops) }
         ensures shorter { Consumes self.old result self.new }
     {
@@ -86,12 +86,12 @@ impl<'a> Reader<'a> {
     }
 
     /// The same, of a keyword or symbol of which only so many are allowed.
-    pub fn take_allowed(&mut self, kind: TokenKind, allowed: usize) -> Result<Option<u32>, Fault>
-        requires { IsMark kind }
-        ensures value { TakesAllowed kind allowed self.old result self.new }
+    pub fn take_within(&mut self, kind: TokenKind, limit: usize) -> Result<Option<u32>, Fault>
+        requires { IsFixed kind }
+        ensures value { TakesWithin kind limit self.old result self.new }
         ensures shorter { ConsumesNext self.old result self.new }
     {
-        if allowed > 0 {
+        if limit > 0 {
             return Ok(self.take(kind));
         }
         match self.rest.first() {
@@ -102,7 +102,7 @@ impl<'a> Reader<'a> {
 
     /// A number and its line, which is read, where it stands next.
     pub fn take_number(&mut self) -> Option<(i128, u32)>
-        ensures value { TakesNumeral self.old result self.new }
+        ensures value { TakesLiteral self.old result self.new }
         ensures shorter { MatchOption result (length self.new ≤ length self.old) (λ _. length self.new < length self.old) }
         ensures sign { IfSome result (λ found. pos 0 ≤ℤ found.0) }
     {
@@ -117,7 +117,7 @@ impl<'a> Reader<'a> {
 
     /// The same, of a number that must stand next.
     pub fn expect_number(&mut self) -> Result<i128, Fault>
-        ensures value { ExpectsNumeral self.old result self.new }
+        ensures value { ExpectsLiteral self.old result self.new }
         ensures shorter { Consumes self.old result self.new }
         ensures sign { IfOk result (λ value. pos 0 ≤ℤ value) }
     {
@@ -127,7 +127,7 @@ impl<'a> Reader<'a> {
 
     /// A name, which is read, where one stands next.
     pub fn take_name(&mut self, alloc: Global) -> Result<Option<Name>, AllocError>
-        ensures value { TakesWord self.old result self.new }
+        ensures value { TakesIdentifier self.old result self.new }
         ensures shorter { MatchResult result (λ found. MatchOption found (length self.new ≤ length self.old) (λ _. length self.new < length self.old)) (λ _. length self.new ≤ length self.old) }
     {
         let Some((token, rest)) = self.rest.split_first() else {
@@ -146,7 +146,7 @@ impl<'a> Reader<'a> {
 
     /// The same, of a name that must stand next.
     pub fn expect_name(&mut self, alloc: Global) -> Result<Name, Fault>
-        ensures value { ExpectsWord self.old result self.new }
+        ensures value { ExpectsIdentifier self.old result self.new }
         ensures shorter { Consumes self.old result self.new }
     {
         self.take_name(alloc)?.ok_or(Fault::Stops)

@@ -1,8 +1,8 @@
 ghost use Rattle.std.specs.Prelude.{ℕ, ◌+◌, ◌≤◌, ◌∷◌, length};
 ghost use Rattle.source_lexer.specs.declared.token.TokenKind.TheVariants.{Becomes as BecomesToken, Do as DoToken, End as EndToken, For as ForToken, If as IfToken, LeftBracket, Limit as LimitToken, Print as PrintToken, Read as ReadToken, Semicolon as SemicolonToken, Then as ThenToken, While as WhileToken};
 ghost use Rattle.source_parser.specs.Grammar.{sum, ReadsCondition, ReadsElse, ReadsListed, ReadsOutermost, ReadsPlace, ReadsStatement, ReadsStatements};
-ghost use Rattle.source_parser.specs.Symbols.{mark, word};
-ghost use Rattle.source_parser.specs.Fronts.{Anything, BeginsNoStatement, Closed, Consumes, ConsumesNext, Ends, ExpectsComparison, NotMark, ReadsBounds, ReadsBranches, ReadsName, ReadsNumeral, Tells, TellsNext};
+ghost use Rattle.source_parser.specs.Terminals.{fixed, identifier};
+ghost use Rattle.source_parser.specs.Prefixes.{Anything, BeginsNoStatement, Closed, Consumes, ConsumesNext, Ends, ExpectsComparison, NotFixed, ReadsBounds, ReadsBranches, ReadsName, ReadsLiteral, Parses, ParsesNext};
 
 use crate::expression::expr;
 use crate::fault::Fault;
@@ -19,7 +19,7 @@ pub fn statements(
     reader: &mut Reader<'_>,
     depth: usize,
 ) -> Result<Items<Statement>, Fault>
-    ensures value { Tells (ReadsStatements 200 depth) BeginsNoStatement reader.old result reader.new }
+    ensures value { Parses (ReadsStatements 200 depth) BeginsNoStatement reader.old result reader.new }
     ensures shorter { length reader.new ≤ length reader.old }
 {
     let mut found = Items::new(alloc);
@@ -36,7 +36,7 @@ fn statement(
     reader: &mut Reader<'_>,
     depth: usize,
 ) -> Result<Option<Statement>, Fault>
-    ensures value { TellsNext (ReadsStatement 200 depth) BeginsNoStatement reader.old result reader.new }
+    ensures value { ParsesNext (ReadsStatement 200 depth) BeginsNoStatement reader.old result reader.new }
     ensures shorter { ConsumesNext reader.old result reader.new }
 {
     if let Some(line) = reader.take(TokenKind::Print) {
@@ -45,33 +45,33 @@ fn statement(
     if let Some(line) = reader.take(TokenKind::Read) {
         return Ok(Some(read(alloc, reader, line)?));
     }
-    if let Some(line) = reader.take_allowed(TokenKind::If, depth)? {
-        return Ok(Some(choice(alloc, reader, depth - 1, line)?));
+    if let Some(line) = reader.take_within(TokenKind::If, depth)? {
+        return Ok(Some(if_statement(alloc, reader, depth - 1, line)?));
     }
-    if let Some(line) = reader.take_allowed(TokenKind::For, depth)? {
-        return Ok(Some(count(alloc, reader, depth - 1, line)?));
+    if let Some(line) = reader.take_within(TokenKind::For, depth)? {
+        return Ok(Some(for_statement(alloc, reader, depth - 1, line)?));
     }
-    if let Some(line) = reader.take_allowed(TokenKind::While, depth)? {
-        return Ok(Some(repetition(alloc, reader, depth - 1, line)?));
+    if let Some(line) = reader.take_within(TokenKind::While, depth)? {
+        return Ok(Some(while_statement(alloc, reader, depth - 1, line)?));
     }
     match reader.take_name(alloc)? {
-        Some(name) => Ok(Some(named(alloc, reader, name)?)),
+        Some(name) => Ok(Some(assignment_or_call(alloc, reader, name)?)),
         None => Ok(None),
     }
 }
 
-/// Behind `if`: `condition then statements else statements end`, the second statements with their `else` or neither.
+/// After `if`: `condition then statements else statements end`, the second statements with their `else` or neither.
 #[cycle(statement)]
-fn choice(
+fn if_statement(
     alloc: Global,
     reader: &mut Reader<'_>,
     depth: usize,
     line: u32,
 ) -> Result<Statement, Fault>
-    ensures value { Tells (λ symbols. ReadsStatement 200 (depth + 1) (mark IfToken line ∷ symbols)) Anything reader.old result reader.new }
+    ensures value { Parses (λ terminals. ReadsStatement 200 (depth + 1) (fixed IfToken line ∷ terminals)) Anything reader.old result reader.new }
     ensures shorter { Consumes reader.old result reader.new }
 {
-    let condition = choice_condition(alloc, reader)?;
+    let condition = if_condition(alloc, reader)?;
     let (first, second) = branches(alloc, reader, depth)?;
     Ok(Statement::If {
         condition,
@@ -88,22 +88,22 @@ fn branches(
     reader: &mut Reader<'_>,
     depth: usize,
 ) -> Result<(Items<Statement>, Items<Statement>), Fault>
-    ensures value { Tells (ReadsBranches 200 depth) Anything reader.old result reader.new }
+    ensures value { Parses (ReadsBranches 200 depth) Anything reader.old result reader.new }
     ensures shorter { Consumes reader.old result reader.new }
 {
     let first = statements(alloc, reader, depth)?;
-    let second = otherwise(alloc, reader, depth)?;
+    let second = else_part(alloc, reader, depth)?;
     Ok((first, second))
 }
 
 /// `else statements end`, or `end`.
 #[cycle(statement)]
-fn otherwise(
+fn else_part(
     alloc: Global,
     reader: &mut Reader<'_>,
     depth: usize,
 ) -> Result<Items<Statement>, Fault>
-    ensures value { Tells (Closed (ReadsElse 200 depth) EndToken) Anything reader.old result reader.new }
+    ensures value { Parses (Closed (ReadsElse 200 depth) EndToken) Anything reader.old result reader.new }
     ensures shorter { Consumes reader.old result reader.new }
 {
     if reader.take(TokenKind::Else).is_none() {
@@ -116,7 +116,7 @@ fn otherwise(
 /// `statements end`
 #[cycle(statement)]
 fn body(alloc: Global, reader: &mut Reader<'_>, depth: usize) -> Result<Items<Statement>, Fault>
-    ensures value { Tells (Closed (ReadsStatements 200 depth) EndToken) Anything reader.old result reader.new }
+    ensures value { Parses (Closed (ReadsStatements 200 depth) EndToken) Anything reader.old result reader.new }
     ensures shorter { Consumes reader.old result reader.new }
 {
     let found = statements(alloc, reader, depth)?;
@@ -124,15 +124,15 @@ fn body(alloc: Global, reader: &mut Reader<'_>, depth: usize) -> Result<Items<St
     Ok(found)
 }
 
-/// Behind `for`: `name := first to last do statements end`.
+/// After `for`: `name := first to last do statements end`.
 #[cycle(statement)]
-fn count(
+fn for_statement(
     alloc: Global,
     reader: &mut Reader<'_>,
     depth: usize,
     line: u32,
 ) -> Result<Statement, Fault>
-    ensures value { Tells (λ symbols. ReadsStatement 200 (depth + 1) (mark ForToken line ∷ symbols)) Anything reader.old result reader.new }
+    ensures value { Parses (λ terminals. ReadsStatement 200 (depth + 1) (fixed ForToken line ∷ terminals)) Anything reader.old result reader.new }
     ensures shorter { Consumes reader.old result reader.new }
 {
     let name = counter(alloc, reader)?;
@@ -147,15 +147,15 @@ fn count(
     })
 }
 
-/// Behind `while`: `condition limit number do statements end`.
+/// After `while`: `condition limit number do statements end`.
 #[cycle(statement)]
-fn repetition(
+fn while_statement(
     alloc: Global,
     reader: &mut Reader<'_>,
     depth: usize,
     line: u32,
 ) -> Result<Statement, Fault>
-    ensures value { Tells (λ symbols. ReadsStatement 200 (depth + 1) (mark WhileToken line ∷ symbols)) Anything reader.old result reader.new }
+    ensures value { Parses (λ terminals. ReadsStatement 200 (depth + 1) (fixed WhileToken line ∷ terminals)) Anything reader.old result reader.new }
     ensures shorter { Consumes reader.old result reader.new }
 {
     let condition = limited_condition(alloc, reader)?;
@@ -170,8 +170,8 @@ fn repetition(
 }
 
 /// `condition then`
-fn choice_condition(alloc: Global, reader: &mut Reader<'_>) -> Result<Condition, Fault>
-    ensures value { Tells (Closed (ReadsCondition 200) ThenToken) Anything reader.old result reader.new }
+fn if_condition(alloc: Global, reader: &mut Reader<'_>) -> Result<Condition, Fault>
+    ensures value { Parses (Closed (ReadsCondition 200) ThenToken) Anything reader.old result reader.new }
     ensures shorter { Consumes reader.old result reader.new }
 {
     let condition = condition(alloc, reader)?;
@@ -181,7 +181,7 @@ fn choice_condition(alloc: Global, reader: &mut Reader<'_>) -> Result<Condition,
 
 /// `name :=`
 fn counter(alloc: Global, reader: &mut Reader<'_>) -> Result<Name, Fault>
-    ensures value { Tells (Closed ReadsName BecomesToken) Anything reader.old result reader.new }
+    ensures value { Parses (Closed ReadsName BecomesToken) Anything reader.old result reader.new }
     ensures shorter { Consumes reader.old result reader.new }
 {
     let name = reader.expect_name(alloc)?;
@@ -191,7 +191,7 @@ fn counter(alloc: Global, reader: &mut Reader<'_>) -> Result<Name, Fault>
 
 /// `first to last do`
 fn bounds(alloc: Global, reader: &mut Reader<'_>) -> Result<(Expr, Expr), Fault>
-    ensures value { Tells (ReadsBounds 200) Anything reader.old result reader.new }
+    ensures value { Parses (ReadsBounds 200) Anything reader.old result reader.new }
     ensures shorter { Consumes reader.old result reader.new }
 {
     let first = expr(alloc, reader)?;
@@ -203,7 +203,7 @@ fn bounds(alloc: Global, reader: &mut Reader<'_>) -> Result<(Expr, Expr), Fault>
 
 /// `condition limit`
 fn limited_condition(alloc: Global, reader: &mut Reader<'_>) -> Result<Condition, Fault>
-    ensures value { Tells (Closed (ReadsCondition 200) LimitToken) Anything reader.old result reader.new }
+    ensures value { Parses (Closed (ReadsCondition 200) LimitToken) Anything reader.old result reader.new }
     ensures shorter { Consumes reader.old result reader.new }
 {
     let condition = condition(alloc, reader)?;
@@ -213,7 +213,7 @@ fn limited_condition(alloc: Global, reader: &mut Reader<'_>) -> Result<Condition
 
 /// `number do`
 fn limit(reader: &mut Reader<'_>) -> Result<i128, Fault>
-    ensures value { Tells (Closed ReadsNumeral DoToken) Anything reader.old result reader.new }
+    ensures value { Parses (Closed ReadsLiteral DoToken) Anything reader.old result reader.new }
     ensures shorter { Consumes reader.old result reader.new }
 {
     let limit = reader.expect_number()?;
@@ -221,9 +221,9 @@ fn limit(reader: &mut Reader<'_>) -> Result<i128, Fault>
     Ok(limit)
 }
 
-/// Behind `print`: `value;`
+/// After `print`: `value;`
 fn print(alloc: Global, reader: &mut Reader<'_>, line: u32) -> Result<Statement, Fault>
-    ensures value { (depth : ℕ) → Tells (λ symbols. ReadsStatement 200 depth (mark PrintToken line ∷ symbols)) Anything reader.old result reader.new }
+    ensures value { (depth : ℕ) → Parses (λ terminals. ReadsStatement 200 depth (fixed PrintToken line ∷ terminals)) Anything reader.old result reader.new }
     ensures shorter { Consumes reader.old result reader.new }
 {
     let value = value(alloc, reader)?;
@@ -232,7 +232,7 @@ fn print(alloc: Global, reader: &mut Reader<'_>, line: u32) -> Result<Statement,
 
 /// `value;`
 fn value(alloc: Global, reader: &mut Reader<'_>) -> Result<Expr, Fault>
-    ensures value { Tells (Closed (ReadsOutermost 200) SemicolonToken) Anything reader.old result reader.new }
+    ensures value { Parses (Closed (ReadsOutermost 200) SemicolonToken) Anything reader.old result reader.new }
     ensures shorter { Consumes reader.old result reader.new }
 {
     let value = expr(alloc, reader)?;
@@ -240,9 +240,9 @@ fn value(alloc: Global, reader: &mut Reader<'_>) -> Result<Expr, Fault>
     Ok(value)
 }
 
-/// Behind `read`: `place;`
+/// After `read`: `place;`
 fn read(alloc: Global, reader: &mut Reader<'_>, line: u32) -> Result<Statement, Fault>
-    ensures value { (depth : ℕ) → Tells (λ symbols. ReadsStatement 200 depth (mark ReadToken line ∷ symbols)) Anything reader.old result reader.new }
+    ensures value { (depth : ℕ) → Parses (λ terminals. ReadsStatement 200 depth (fixed ReadToken line ∷ terminals)) Anything reader.old result reader.new }
     ensures shorter { Consumes reader.old result reader.new }
 {
     let name = reader.expect_name(alloc)?;
@@ -251,9 +251,13 @@ fn read(alloc: Global, reader: &mut Reader<'_>, line: u32) -> Result<Statement, 
     Ok(Statement::Read { place, line })
 }
 
-/// Behind a name: `(arguments);`, or what an assignment to that name has behind it.
-fn named(alloc: Global, reader: &mut Reader<'_>, name: Name) -> Result<Statement, Fault>
-    ensures value { (depth : ℕ) → Tells (λ symbols. ReadsStatement 200 depth (word name ∷ symbols)) Anything reader.old result reader.new }
+/// After a name: `(arguments);`, or what an assignment to that name has after it.
+fn assignment_or_call(
+    alloc: Global,
+    reader: &mut Reader<'_>,
+    name: Name,
+) -> Result<Statement, Fault>
+    ensures value { (depth : ℕ) → Parses (λ terminals. ReadsStatement 200 depth (identifier name ∷ terminals)) Anything reader.old result reader.new }
     ensures shorter { Consumes reader.old result reader.new }
 {
     let line = name.line;
@@ -272,9 +276,9 @@ fn named(alloc: Global, reader: &mut Reader<'_>, name: Name) -> Result<Statement
     Ok(Statement::Assign { place, value, line })
 }
 
-/// Behind a name: an index, or nothing.
+/// After a name: an index, or nothing.
 fn place(alloc: Global, reader: &mut Reader<'_>, name: Name) -> Result<Place, Fault>
-    ensures value { Tells (λ symbols. ReadsPlace 200 (word name ∷ symbols)) (NotMark LeftBracket) reader.old result reader.new }
+    ensures value { Parses (λ terminals. ReadsPlace 200 (identifier name ∷ terminals)) (NotFixed LeftBracket) reader.old result reader.new }
     ensures shorter { length reader.new ≤ length reader.old }
 {
     if reader.take(TokenKind::LeftBracket).is_none() {
@@ -285,9 +289,9 @@ fn place(alloc: Global, reader: &mut Reader<'_>, name: Name) -> Result<Place, Fa
     Ok(Place::Element { name, index })
 }
 
-/// Behind `(`: expressions with commas between them, or none, and `)`.
+/// After `(`: expressions with commas between them, or none, and `)`.
 fn arguments(alloc: Global, reader: &mut Reader<'_>) -> Result<Items<Expr>, Fault>
-    ensures value { Tells (ReadsListed (ReadsOutermost 200)) Anything reader.old result reader.new }
+    ensures value { Parses (ReadsListed (ReadsOutermost 200)) Anything reader.old result reader.new }
     ensures shorter { Consumes reader.old result reader.new }
 {
     let mut found = Items::new(alloc);
@@ -304,7 +308,7 @@ fn arguments(alloc: Global, reader: &mut Reader<'_>) -> Result<Items<Expr>, Faul
 
 /// Two expressions with a comparison between them.
 fn condition(alloc: Global, reader: &mut Reader<'_>) -> Result<Condition, Fault>
-    ensures value { Tells (ReadsCondition 200) (Ends sum) reader.old result reader.new }
+    ensures value { Parses (ReadsCondition 200) (Ends sum) reader.old result reader.new }
     ensures shorter { Consumes reader.old result reader.new }
 {
     let line = reader.line();

@@ -17,7 +17,7 @@ use std::alloc::Global;
 /// Refuses a source text by its first fault, or since its meaning is not built yet.
 pub fn refuse_source<K: Sink>(alloc: Global, text: &[u8], sink: &mut K) -> Status
     requires { length text.now ≤ file_limit }
-    ensures { EndsAnswered K.took K.state sink.old (IsRefused text.now) result sink.new }
+    ensures { EndsAnswered K.puts K.state sink.old (IsRefused text.now) result sink.new }
 {
     let tokens = match tokens(alloc, text) {
         Ok(tokens) => tokens,
@@ -34,10 +34,10 @@ pub fn refuse_source<K: Sink>(alloc: Global, text: &[u8], sink: &mut K) -> Statu
     }
 }
 
-/// Puts the refusal of a source for this kind of fault on this line.
+/// PutsEach the refusal of a source for this kind of fault on this line.
 fn refuse<K: Sink>(sink: &mut K, kind: &[u8], line: u32) -> Status
     requires { length kind.now ≤ 20 }
-    ensures { EndsPut K.took K.state sink.old (refused_lines kind.now line) Status.SourceRefused result sink.new }
+    ensures { EndsPut K.puts K.state sink.old (refused_lines kind.now line) Status.SourceRefused result sink.new }
 {
     finish(
         sink,

@@ -4,7 +4,7 @@ use Rattle.std.specs.Ordering.{int_eq}
 use Rattle.moduli_sets.specs.declared.kind.Kind.TheVariants.{Zero, Index}
 use Rattle.source_tree.specs.Division.{floor_div, floor_mod}
 use Rattle.source_tree.specs.State.{State}
-use Rattle.source_tree.specs.Run.{Run, visit, goes_on, traps, happens, and_then}
+use Rattle.source_tree.specs.Run.{Run, visit, returns, traps, happens, and_then}
 use Rattle.source_tree.specs.Scope.{Scope, number_at, has_element, element_at}
 use Rattle.source_tree.specs.declared.expression.Operator.{Operator}
 use Rattle.source_tree.specs.declared.expression.Operator.TheVariants.{Add, Sub, Mul, Div, Mod}
@@ -16,30 +16,30 @@ abbrev pub Evaluation : Type 0
 Evaluation = Scope → State → Run ℤ
 
 -- a quotient or remainder, or a trap where the divisor is 0
-abbrev pub divided : (ℤ → ℤ → ℤ) → ℤ → ℤ → ℕ → State → Run ℤ
-divided operation x y line state = if int_eq y (pos 0) then traps Zero line else goes_on (operation x y) state
+abbrev pub quotient_or_trap : (ℤ → ℤ → ℤ) → ℤ → ℤ → ℕ → State → Run ℤ
+quotient_or_trap operation x y line state = if int_eq y (pos 0) then traps Zero line else returns (operation x y) state
 
-abbrev pub applied : Operator → ℤ → ℤ → ℕ → State → Run ℤ
-applied Add x y line state = goes_on (x +ℤ y) state
-applied Sub x y line state = goes_on (x -ℤ y) state
-applied Mul x y line state = goes_on (x *ℤ y) state
-applied Div x y line state = divided floor_div x y line state
-applied Mod x y line state = divided floor_mod x y line state
+abbrev pub operator_result : Operator → ℤ → ℤ → ℕ → State → Run ℤ
+operator_result Add x y line state = returns (x +ℤ y) state
+operator_result Sub x y line state = returns (x -ℤ y) state
+operator_result Mul x y line state = returns (x *ℤ y) state
+operator_result Div x y line state = quotient_or_trap floor_div x y line state
+operator_result Mod x y line state = quotient_or_trap floor_mod x y line state
 
 -- an element, or a trap where there is none of this number
 abbrev pub element_or_trap : Scope → List ℕ → ℤ → ℕ → State → Run ℤ
 element_or_trap scope a i line state =
-    if has_element scope a i then goes_on (element_at a i state) state else traps Index line
+    if has_element scope a i then returns (element_at a i state) state else traps Index line
 
 -- a node, from what its operands or its index mean
 abbrev pub evaluation_of_node : Expr-F Evaluation → Evaluation
-evaluation_of_node (Number value line) scope state = happens visit (goes_on value state)
-evaluation_of_node (Name name) scope state = happens visit (goes_on (number_at scope name.bytes state) state)
+evaluation_of_node (Number value line) scope state = happens visit (returns value state)
+evaluation_of_node (Name name) scope state = happens visit (returns (number_at scope name.bytes state) state)
 evaluation_of_node (Element name index) scope state =
     happens visit (and_then (index scope state) (λ i. element_or_trap scope name.bytes i name.line))
-evaluation_of_node (Neg operand line) scope state = happens visit (and_then (operand scope state) (λ x. goes_on (neg_ℤ x)))
+evaluation_of_node (Neg operand line) scope state = happens visit (and_then (operand scope state) (λ x. returns (neg_ℤ x)))
 evaluation_of_node (Binary left operator right line) scope state =
-    happens visit (and_then (left scope state) (λ x after. and_then (right scope after) (λ y. applied operator x y line)))
+    happens visit (and_then (left scope state) (λ x after. and_then (right scope after) (λ y. operator_result operator x y line)))
 
 abbrev pub evaluation : Expr → Evaluation
 evaluation e = fold-Expr Evaluation evaluation_of_node e

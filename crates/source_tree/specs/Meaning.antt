@@ -1,7 +1,8 @@
 -- What a source means: the run of its statements, in the scope of its declarations.
 use Rattle.std.specs.Prelude.{ℤ, pos, List, [], ◌∷◌, ◌++◌, map, zip, replicate, if◌then◌else◌, int_lt, unsigned_abs, ⊤}
-use Rattle.source_tree.specs.State.{Named, State}
-use Rattle.source_tree.specs.Run.{Run, visit, goes_on, happens, and_then}
+use Rattle.plain_text.specs.Lookup.{Named}
+use Rattle.source_tree.specs.State.{State}
+use Rattle.source_tree.specs.Run.{Run, visit, returns, happens, and_then}
 use Rattle.source_tree.specs.Scope.{procedure, variable, local, array, Scope}
 use Rattle.source_tree.specs.Statement.{Execution, in_order, execution}
 use Rattle.source_tree.specs.declared.name.Range.{Range}
@@ -32,7 +33,7 @@ abbrev pub call_of : List Param → List Local → Execution → Scope → List 
 call_of params locals body scope arguments state =
     let held = zip (map (λ p. p.name.bytes) params) arguments ++ map (λ l. (l.name.bytes, start_of l.range)) locals in
     set_locals locals (and_then (body (inside params locals scope) (record state { locals = held })) (λ u after.
-    goes_on u (record after { locals = state.locals })))
+    returns u (record after { locals = state.locals })))
 
 -- ---- declarations
 -- what a declaration adds to what was declared before

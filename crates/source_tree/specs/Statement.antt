@@ -3,8 +3,9 @@ use Rattle.std.specs.Prelude.{ℕ, zero, suc, ℤ, pos, ◌+◌, ◌+ℤ◌, ◌
 use Rattle.std.specs.Ordering.{int_eq}
 use Rattle.moduli_sets.specs.declared.kind.Kind.{Kind}
 use Rattle.moduli_sets.specs.declared.kind.Kind.TheVariants as kind
-use Rattle.source_tree.specs.State.{State, under}
-use Rattle.source_tree.specs.Run.{Run, visit, print, goes_on, traps, happens, and_then}
+use Rattle.plain_text.specs.Lookup.{lookup}
+use Rattle.source_tree.specs.State.{State}
+use Rattle.source_tree.specs.Run.{Run, visit, print, returns, traps, happens, and_then}
 use Rattle.source_tree.specs.Scope.{Declared, procedure, variable, local, array, Scope, is_within, range_at, with_number_at, has_element, with_element_at}
 use Rattle.source_tree.specs.Expression.{Evaluation, evaluation}
 use Rattle.source_tree.specs.declared.name.Range.{Range}
@@ -21,7 +22,7 @@ abbrev pub Execution : Type 0
 Execution = Scope → State → Run ⊤
 
 abbrev pub nothing_done : State → Run ⊤
-nothing_done state = goes_on tt state
+nothing_done state = returns tt state
 
 -- statements, one after another
 abbrev pub in_order : List Execution → Execution
@@ -43,7 +44,7 @@ Test = Scope → State → Run Bool
 
 abbrev pub compared : Evaluation → Comparison → Evaluation → Test
 compared left comparison right scope state =
-    happens visit (and_then (left scope state) (λ x after. and_then (right scope after) (λ y. goes_on (holds comparison x y))))
+    happens visit (and_then (left scope state) (λ x after. and_then (right scope after) (λ y. returns (holds comparison x y))))
 
 abbrev pub test_of : Condition → Test
 test_of condition = compared (evaluation condition.left) condition.comparison (evaluation condition.right)
@@ -73,13 +74,13 @@ read_into place line scope (number ∷ rest) state =
 
 -- ---- loops
 -- the turns that are left of a `for`, with the integer of the next
-abbrev pub counted : ℕ → ℤ → List ℕ → ℕ → Execution → Execution
-counted zero next x line body scope state = nothing_done state
-counted (suc turns) next x line body scope state =
+abbrev pub for_turns : ℕ → ℤ → List ℕ → ℕ → Execution → Execution
+for_turns zero next x line body scope state = nothing_done state
+for_turns (suc turns) next x line body scope state =
     happens visit (
     if is_within next (range_at scope x)
     then and_then (body scope (with_number_at scope x next state)) (λ u after.
-    counted turns (next +ℤ pos 1) x line body scope after)
+    for_turns turns (next +ℤ pos 1) x line body scope after)
     else traps kind.Range line)
 
 -- how many integers there are from a to b
@@ -87,32 +88,32 @@ abbrev pub turns_of : ℤ → ℤ → ℕ
 turns_of a b = if int_lt b a then 0 else unsigned_abs (b -ℤ a) + 1
 
 -- a `while` of which so many turns are left
-abbrev pub while_left : ℕ → Test → ℕ → Execution → Execution
-while_left zero test line body scope state =
+abbrev pub while_turns : ℕ → Test → ℕ → Execution → Execution
+while_turns zero test line body scope state =
     and_then (test scope state) (λ again after. if again then traps kind.Turns line else nothing_done after)
-while_left (suc turns) test line body scope state =
+while_turns (suc turns) test line body scope state =
     and_then (test scope state) (λ again after.
-    if again then happens visit (and_then (body scope after) (λ u later. while_left turns test line body scope later))
+    if again then happens visit (and_then (body scope after) (λ u later. while_turns turns test line body scope later))
     else nothing_done after)
 
 -- ---- calls
 -- The values of arguments, each tested by the range of its parameter as soon as it is there. They are held apart from
 -- the parameters until all are there.
-abbrev pub arguments_in : List Evaluation → List Range → ℕ → Scope → State → Run (List ℤ)
-arguments_in [] parameters line scope state = goes_on [] state
-arguments_in (argument ∷ arguments) [] line scope state = goes_on [] state
-arguments_in (argument ∷ arguments) (range ∷ parameters) line scope state =
+abbrev pub argument_values : List Evaluation → List Range → ℕ → Scope → State → Run (List ℤ)
+argument_values [] parameters line scope state = returns [] state
+argument_values (argument ∷ arguments) [] line scope state = returns [] state
+argument_values (argument ∷ arguments) (range ∷ parameters) line scope state =
     and_then (argument scope state) (λ x after.
-    if is_within x range then and_then (arguments_in arguments parameters line scope after) (λ xs. goes_on (x ∷ xs))
+    if is_within x range then and_then (argument_values arguments parameters line scope after) (λ xs. returns (x ∷ xs))
     else traps kind.Range line)
 
-abbrev pub called : Option Declared → List Evaluation → ℕ → Execution
-called (Some (procedure parameters call)) arguments line scope state =
-    and_then (arguments_in arguments parameters line scope state) call
-called (Some (variable range)) arguments line scope state = nothing_done state
-called (Some (local range)) arguments line scope state = nothing_done state
-called (Some (array len range)) arguments line scope state = nothing_done state
-called None arguments line scope state = nothing_done state
+abbrev pub procedure_call : Option Declared → List Evaluation → ℕ → Execution
+procedure_call (Some (procedure parameters call)) arguments line scope state =
+    and_then (argument_values arguments parameters line scope state) call
+procedure_call (Some (variable range)) arguments line scope state = nothing_done state
+procedure_call (Some (local range)) arguments line scope state = nothing_done state
+procedure_call (Some (array len range)) arguments line scope state = nothing_done state
+procedure_call None arguments line scope state = nothing_done state
 
 -- ---- statements
 -- a statement, from what the statements in it do
@@ -127,11 +128,11 @@ execution_of_node (If condition first second line) scope state =
     if chosen then in_order first scope after else in_order second scope after))
 execution_of_node (For name first last body line) scope state =
     happens visit (and_then (evaluation first scope state) (λ a after. and_then (evaluation last scope after) (λ b.
-    counted (turns_of a b) a name.bytes line (in_order body) scope)))
+    for_turns (turns_of a b) a name.bytes line (in_order body) scope)))
 execution_of_node (While condition limit body line) scope state =
-    happens visit (while_left (unsigned_abs limit) (test_of condition) line (in_order body) scope state)
+    happens visit (while_turns (unsigned_abs limit) (test_of condition) line (in_order body) scope state)
 execution_of_node (Call name arguments line) scope state =
-    happens visit (called (under name.bytes scope) (map evaluation arguments) line scope state)
+    happens visit (procedure_call (lookup name.bytes scope) (map evaluation arguments) line scope state)
 
 abbrev pub execution : Statement → Execution
 execution s = fold-Statement Execution execution_of_node s

@@ -4,7 +4,7 @@ use Rattle.std.proofs.Math.Seq.{take-append_seam}
 use Rattle.std.proofs.lemmas.List.{take-append-drop}
 use Rattle.std.specs.List.{list_all}
 use Rattle.outside.specs.Sink.{SinkState, PutLeaves, WroteAll, BrokeOff}
-use Rattle.outside.specs.Runs.{WroteAll-one, BrokeOff-one, BrokeOff-append}
+use Rattle.outside.proofs.Runs.{WroteAll-one, BrokeOff-one, BrokeOff-append}
 use Rattle.outside.specs.declared.sink.Put.{Put}
 use Rattle.outside.specs.declared.sink.Put.TheVariants.{Done, Failed}
 use Rattle.number_text.specs.Lines.{print_lines}
@@ -70,13 +70,13 @@ module _ (program : Program) (statement : Statement) (left : List Statement) (va
       sym (take-append_seam front rest) ∙ ap (take (length front)) whole
 
 -- ---- puts
-module _ {K : Type 0} (took : K → List ℕ → K → Type 0) (state : K → SinkState) where
+module _ {K : Type 0} (puts : K → List ℕ → K → Type 0) (state : K → SinkState) where
   -- one put is a run of one piece
-  pub PutsPieces-one : (old : K) (piece : List ℕ) (result : Put) (new : K) → PutLeaves (state old) piece result (state new) → (state new).late ≡ ((state old).late || not ((state old).faults == 0)) → took old piece new → PutsPieces took state old (piece ∷ []) result new
+  pub PutsPieces-one : (old : K) (piece : List ℕ) (result : Put) (new : K) → PutLeaves (state old) piece result (state new) → (state new).late ≡ ((state old).late || not ((state old).faults == 0)) → puts old piece new → PutsPieces puts state old (piece ∷ []) result new
   PutsPieces-one old piece Done new leaves late one = WroteAll-one old piece new leaves late one
   PutsPieces-one old piece Failed new leaves late one = (1, BrokeOff-one old piece new leaves late one)
 
   -- a run that failed after one that did not
-  pub PutsPieces-broke : (old mid new : K) (program : Program) (statement : Statement) (left : List Statement) (variables pieces : List (List ℕ)) (at : State) → IsReached program (statement ∷ left) variables pieces at → WroteAll took state old pieces mid → PutsPieces took state mid (pieces_of at statement) Failed new → PutsPieces took state old (print_lines (prints_of program)) Failed new
+  pub PutsPieces-broke : (old mid new : K) (program : Program) (statement : Statement) (left : List Statement) (variables pieces : List (List ℕ)) (at : State) → IsReached program (statement ∷ left) variables pieces at → WroteAll puts state old pieces mid → PutsPieces puts state mid (pieces_of at statement) Failed new → PutsPieces puts state old (print_lines (prints_of program)) Failed new
   PutsPieces-broke old mid new program statement left variables pieces at reached wrote (n, broke) =
-      (length (pieces ++ take n (pieces_of at statement)), subst (λ all. BrokeOff took state old all new) (take-front program statement left variables pieces at reached n) (BrokeOff-append wrote broke))
+      (length (pieces ++ take n (pieces_of at statement)), subst (λ all. BrokeOff puts state old all new) (take-front program statement left variables pieces at reached n) (BrokeOff-append wrote broke))

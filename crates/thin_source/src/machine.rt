@@ -45,7 +45,7 @@ fn first_value_of(declaration: &Declaration) -> i128
 pub fn run<K: Sink>(program: &Program, mut variables: Vec<Vector>, sink: &mut K) -> Put
     requires lawful { IsLawful (program_view program.now) }
     requires started { variables.items ≡ vectors_of (start_of (program_view program.now).declarations) }
-    ensures { PutsPieces K.took K.state sink.old (print_lines (prints_of (program_view program.now))) result sink.new }
+    ensures { PutsPieces K.puts K.state sink.old (print_lines (prints_of (program_view program.now))) result sink.new }
 {
     let set = Moduli::of(SetName::Pocket);
     for statement in &program.statements {
@@ -73,7 +73,7 @@ fn execute<K: Sink>(
         → Holds (map declaration_view declarations.now) variables.new (state_after state (statement_view statement.now)) }
     ensures put { (state : State)
         → Holds (map declaration_view declarations.now) variables.old state
-        → PutsPieces K.took K.state sink.old (print_lines (prints_from state (statement_view statement.now ∷ []))) result sink.new }
+        → PutsPieces K.puts K.state sink.old (print_lines (prints_from state (statement_view statement.now ∷ []))) result sink.new }
 {
     match statement {
         Statement::Assign(name, sum) => {

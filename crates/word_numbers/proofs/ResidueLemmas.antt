@@ -70,27 +70,27 @@ pub residues_in-below : (moduli : List ℕ) (words : List (List ℕ)) (read : Op
 residues_in-below moduli words read is = subst (λ r. IfSome r (AreResidues moduli)) (sym is) (below moduli words)
 
 -- ---- word by word
--- the outcome of the words from number i on, put behind what was found, is the outcome of all
+-- the outcome of the words from number i on, put after what was found, is the outcome of all
 abbrev pub GoesOn : List ℕ → List (List ℕ) → ℕ → List ℕ → Type 0
 GoesOn moduli words i found = residues_in moduli words ≡ option_map (λ rest. found ++ rest) (residues_in (drop i moduli) (drop i words))
 
-behind_more : (found : List ℕ) (residue : ℕ) (rest : Option (List ℕ)) → option_map (λ residues. found ++ residues) (more (Some residue) rest) ≡ option_map (λ residues. (found ++ residue ∷ []) ++ residues) rest
-behind_more found residue None = refl
-behind_more found residue (Some residues) = ap Some (sym (append_assoc found (residue ∷ []) residues))
+after_more : (found : List ℕ) (residue : ℕ) (rest : Option (List ℕ)) → option_map (λ residues. found ++ residues) (more (Some residue) rest) ≡ option_map (λ residues. (found ++ residue ∷ []) ++ residues) rest
+after_more found residue None = refl
+after_more found residue (Some residues) = ap Some (sym (append_assoc found (residue ∷ []) residues))
 
 at_word : (moduli : List ℕ) (words : List (List ℕ)) (i : ℕ) → i < length moduli → i < length words → residues_in (drop i moduli) (drop i words) ≡ more (residue_in (get_or moduli i 0) (get_or words i [])) (residues_in (drop (i + 1) moduli) (drop (i + 1) words))
 at_word moduli words i some_modulus some_word = rw (add-one, drop-cons moduli i 0, drop-cons words i [])
 
 step : (moduli : List ℕ) (words : List (List ℕ)) (i : ℕ) (found : List ℕ) (first : Option ℕ) → i < length moduli → i < length words → GoesOn moduli words i found → first ≡ residue_in (get_or moduli i 0) (get_or words i []) → residues_in moduli words ≡ option_map (λ rest. found ++ rest) (more first (residues_in (drop (i + 1) moduli) (drop (i + 1) words)))
 step moduli words i found first some_modulus some_word before is =
-    let behind = λ (rest : Option (List ℕ)). option_map (λ residues. found ++ residues) rest in
+    let after = λ (rest : Option (List ℕ)). option_map (λ residues. found ++ residues) rest in
     let rest = residues_in (drop (i + 1) moduli) (drop (i + 1) words) in
-    before ∙ ap behind (at_word moduli words i some_modulus some_word) ∙ ap (λ f. behind (more f rest)) (sym is)
+    before ∙ ap after (at_word moduli words i some_modulus some_word) ∙ ap (λ f. after (more f rest)) (sym is)
 
 -- one residue more is found
 pub GoesOn-more : (moduli : List ℕ) (words : List (List ℕ)) (i : ℕ) (found : List ℕ) (residue : ℕ) → i < length moduli → i < length words → GoesOn moduli words i found → Some residue ≡ residue_in (get_or moduli i 0) (get_or words i []) → GoesOn moduli words (i + 1) (found ++ residue ∷ [])
 GoesOn-more moduli words i found residue some_modulus some_word before is =
-    step moduli words i found (Some residue) some_modulus some_word before is ∙ behind_more found residue _
+    step moduli words i found (Some residue) some_modulus some_word before is ∙ after_more found residue _
 
 -- a word that writes none ends all
 pub GoesOn-none : (moduli : List ℕ) (words : List (List ℕ)) (i : ℕ) (found : List ℕ) → i < length moduli → i < length words → GoesOn moduli words i found → None ≡ residue_in (get_or moduli i 0) (get_or words i []) → None ≡ residues_in moduli words

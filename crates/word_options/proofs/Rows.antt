@@ -18,6 +18,6 @@ values_rows = refl
 option_rows : map (option_of (λ value. Some value) (codes "desk")) ([] ∷ (codes "hall" ∷ []) ∷ (codes "a" ∷ codes "b" ∷ []) ∷ []) ≡ Some (codes "desk") ∷ Some (codes "hall") ∷ None ∷ []
 option_rows = refl
 
--- the name behind `--faults=`
+-- the name after `--faults=`
 name_row : file_name (codes "run" ∷ codes "--faults=f.txt" ∷ []) (record { word = 1; skip = 9 }) ≡ codes "f.txt"
 name_row = refl

@@ -1,8 +1,8 @@
 use Rattle.std.proofs.Common.{◌≡◌, ◌-◌, ◌*◌, ◌+◌, ◌%◌, drop, get_or, slice_index, ap, ◌∙◌, arith}
 use Rattle.moduli_sets.specs.Moduli.{set_of}
 use Rattle.mixed_radix.specs.Digits.{digits_value}
-use Rattle.mixed_radix.specs.Chosen.{chosen}
-use Rattle.mixed_radix.proofs.ChosenLemmas.{length-chosen}
+use Rattle.mixed_radix.specs.Chosen.{entries_at}
+use Rattle.mixed_radix.proofs.ChosenLemmas.{length-entries_at}
 use Rattle.mixed_radix.proofs.DigitLemmas.{length-residues}
 use Rattle.base_extension.proofs.HornerLemmas.{mod-value_more, digit_below, remainders_fit}
 use Rattle.base_extension.proofs.extension.extend.Goals as goal
@@ -10,14 +10,14 @@ use Rattle.base_extension.proofs.extension.extend.Goals as goal
 pub at-requires-in-loop-n : goal.at-requires-in-loop-n
 at-requires-in-loop-n c =
     let ms = (set_of c.args.set.now).moduli in
-    omega (arith, length-chosen c.args.which.now ms, length-residues (chosen c.args.which.now ms) c.args.d.now c.requires.digits)
+    omega (arith, length-entries_at c.args.which.now ms, length-residues (entries_at c.args.which.now ms) c.args.d.now c.requires.digits)
 
 pub overflow_add-rest : goal.overflow_add-rest
 overflow_add-rest c =
     let ms = (set_of c.args.set.now).moduli in
     let which = c.args.which.now in
     let n = c.loop-n.n in
-    let above = digits_value (drop n (chosen which ms)) (drop n c.args.d.now) in
+    let above = digits_value (drop n (entries_at which ms)) (drop n c.args.d.now) in
     let m = c.modulus.result in
     let modulus : m ≡ get_or ms (get_or which (n - 1) 0) 0 = c.modulus.ensures.value ∙ ap (slice_index ms) c.at.ensures in
     let below = digit_below which ms c.args.d.now (n - 1) (omega arith) c.requires.digits in
@@ -32,6 +32,6 @@ loop-n-preserved c =
     let p = c.args.p in
     let modulus : c.modulus.result ≡ get_or ms (get_or which (n - 1) 0) 0 = c.modulus.ensures.value ∙ ap (slice_index ms) c.at.ensures in
     ap (λ r. (r * (c.modulus.result % p) + c.at-in-loop-n.result) % p) c.loop-n.invariant
-    ∙ ap (λ m. (digits_value (drop n (chosen which ms)) (drop n c.args.d.now) % p * (m % p) + c.at-in-loop-n.result) % p) modulus
-    ∙ ap (λ d. (digits_value (drop n (chosen which ms)) (drop n c.args.d.now) % p * (get_or ms (get_or which (n - 1) 0) 0 % p) + d) % p) c.at-in-loop-n.ensures
+    ∙ ap (λ m. (digits_value (drop n (entries_at which ms)) (drop n c.args.d.now) % p * (m % p) + c.at-in-loop-n.result) % p) modulus
+    ∙ ap (λ d. (digits_value (drop n (entries_at which ms)) (drop n c.args.d.now) % p * (get_or ms (get_or which (n - 1) 0) 0 % p) + d) % p) c.at-in-loop-n.ensures
     ∙ mod-value_more which ms c.args.d.now n p (omega arith) (omega arith) c.requires.digits

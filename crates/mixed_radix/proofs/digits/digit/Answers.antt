@@ -3,7 +3,7 @@ use Rattle.number_theory.specs.Coprime.{IsInverse, product}
 use Rattle.number_theory.specs.Residue.{residue}
 use Rattle.number_theory.proofs.ResidueLemmas.{residue-below}
 use Rattle.moduli_sets.specs.Moduli.{set_of}
-use Rattle.mixed_radix.specs.Chosen.{chosen}
+use Rattle.mixed_radix.specs.Chosen.{entries_at}
 use Rattle.mixed_radix.proofs.ChosenLemmas.{channels_ascend}
 use Rattle.mixed_radix.proofs.DigitLemmas.{length-residues, AreResidues-at}
 use Rattle.mixed_radix.proofs.GarnerLemmas.{left_none, left_more, left_all}
@@ -41,11 +41,11 @@ loop-n-preserved c =
     let modulus : get_or ms c.at-channel.result 0 ≡ m = sym c.modulus-modulus.ensures.value in
     let inverse : IsInverse (get_or ms (get_or c.args.which.now c.loop-n.n 0) 0) m c.inverse.result =
     subst (λ i. IsInverse (get_or ms i 0) m c.inverse.result) channel (subst (λ a. IsInverse (get_or ms c.at-in-loop-n.result 0) a c.inverse.result) modulus c.inverse.ensures.inverse) in
-    let step : c.unscaled-rest.result ≡ residue ((pos c.loop-n.rest -ℤ pos (get_or c.args.found.now c.loop-n.n 0)) *ℤ pos c.inverse.result) m =
-    c.unscaled-rest.ensures ∙ ap (λ d. residue ((pos c.loop-n.rest -ℤ pos d) *ℤ pos c.inverse.result) m) c.at.ensures in
+    let step : c.unscaled_residue-rest.result ≡ residue ((pos c.loop-n.rest -ℤ pos (get_or c.args.found.now c.loop-n.n 0)) *ℤ pos c.inverse.result) m =
+    c.unscaled_residue-rest.ensures ∙ ap (λ d. residue ((pos c.loop-n.rest -ℤ pos d) *ℤ pos c.inverse.result) m) c.at.ensures in
     let positive : 0 < m = omega arith in
     record {
-      small = subst (λ r. r < m) (sym c.unscaled-rest.ensures) (residue-below _ m positive);
+      small = subst (λ r. r < m) (sym c.unscaled_residue-rest.ensures) (residue-below _ m positive);
       left = λ n number front. step ∙ left_more c.args.which.now ms c.args.found.now n c.loop-n.n m c.inverse.result c.loop-n.rest (omega arith) (omega arith) front positive inverse (c.loop-n.invariant.left n number front);
     }
 
@@ -55,6 +55,6 @@ returns c = λ n number front.
     let k = length c.args.found.now in
     let done : c.loop-n.n ≡ k = omega arith in
     let modulus : c.modulus-modulus.result ≡ get_or ms (get_or c.args.which.now k 0) 0 = cc in
-    let left : c.loop-n.rest ≡ (n / product (take k (chosen c.args.which.now ms))) % get_or ms (get_or c.args.which.now k 0) 0 =
-    c.loop-n.invariant.left n number front ∙ ap (λ j. (n / product (take j (chosen c.args.which.now ms))) % c.modulus-modulus.result) done ∙ ap (λ m. (n / product (take k (chosen c.args.which.now ms))) % m) modulus in
+    let left : c.loop-n.rest ≡ (n / product (take k (entries_at c.args.which.now ms))) % get_or ms (get_or c.args.which.now k 0) 0 =
+    c.loop-n.invariant.left n number front ∙ ap (λ j. (n / product (take j (entries_at c.args.which.now ms))) % c.modulus-modulus.result) done ∙ ap (λ m. (n / product (take k (entries_at c.args.which.now ms))) % m) modulus in
     left_all c.args.which.now ms n k c.loop-n.rest (omega arith) left

@@ -1,8 +1,8 @@
 use Rattle.std.proofs.Common.{◌≡◌, ℕ, ◌-◌, ◌*◌, drop, get_or, slice_index, ap, ◌∙◌, arith}
 use Rattle.moduli_sets.specs.Moduli.{set_of}
 use Rattle.mixed_radix.specs.Digits.{digits_value}
-use Rattle.mixed_radix.specs.Chosen.{chosen}
-use Rattle.mixed_radix.proofs.ChosenLemmas.{length-chosen}
+use Rattle.mixed_radix.specs.Chosen.{entries_at}
+use Rattle.mixed_radix.proofs.ChosenLemmas.{length-entries_at}
 use Rattle.mixed_radix.proofs.DigitLemmas.{length-residues}
 use Rattle.mixed_radix.proofs.ValueLemmas.{value_more, value_fits}
 use Rattle.std.proofs.Math.Nat.{mul_comm}
@@ -20,13 +20,13 @@ overflow_mul-value c =
     let more = value_more which set.moduli ds n (omega arith) (omega arith) c.requires.digits in
     let fits = value_fits set which ds (n - 1) c.rules.ensures.set c.len-n.ensures.choice c.requires.channels c.requires.digits in
     let modulus : c.from.result ≡ get_or set.moduli (get_or which (n - 1) 0) 0 = c.from.ensures ∙ c.modulus.ensures.value ∙ ap (slice_index set.moduli) c.at.ensures in
-    let scaled : c.loop-n.value * c.from.result ≡ get_or set.moduli (get_or which (n - 1) 0) 0 * digits_value (drop n (chosen which set.moduli)) (drop n ds) = turned c.loop-n.invariant modulus in
+    let scaled : c.loop-n.value * c.from.result ≡ get_or set.moduli (get_or which (n - 1) 0) 0 * digits_value (drop n (entries_at which set.moduli)) (drop n ds) = turned c.loop-n.invariant modulus in
     omega arith
 
 pub at-requires-in-loop-n : goal.at-requires-in-loop-n
 at-requires-in-loop-n c =
-    let cs = chosen c.args.which.now (set_of c.args.set.now).moduli in
-    omega (arith, length-chosen c.args.which.now (set_of c.args.set.now).moduli, length-residues cs c.args.d.now c.requires.digits)
+    let cs = entries_at c.args.which.now (set_of c.args.set.now).moduli in
+    omega (arith, length-entries_at c.args.which.now (set_of c.args.set.now).moduli, length-residues cs c.args.d.now c.requires.digits)
 
 pub overflow_add-value : goal.overflow_add-value
 overflow_add-value c =
@@ -37,7 +37,7 @@ overflow_add-value c =
     let more = value_more which set.moduli ds n (omega arith) (omega arith) c.requires.digits in
     let fits = value_fits set which ds (n - 1) c.rules.ensures.set c.len-n.ensures.choice c.requires.channels c.requires.digits in
     let modulus : c.from.result ≡ get_or set.moduli (get_or which (n - 1) 0) 0 = c.from.ensures ∙ c.modulus.ensures.value ∙ ap (slice_index set.moduli) c.at.ensures in
-    let scaled : c.loop-n.value * c.from.result ≡ get_or set.moduli (get_or which (n - 1) 0) 0 * digits_value (drop n (chosen which set.moduli)) (drop n ds) = turned c.loop-n.invariant modulus in
+    let scaled : c.loop-n.value * c.from.result ≡ get_or set.moduli (get_or which (n - 1) 0) 0 * digits_value (drop n (entries_at which set.moduli)) (drop n ds) = turned c.loop-n.invariant modulus in
     omega arith
 
 pub loop-n-preserved : goal.loop-n-preserved
@@ -48,5 +48,5 @@ loop-n-preserved c =
     let n = c.loop-n.n in
     let more = value_more which set.moduli ds n (omega arith) (omega arith) c.requires.digits in
     let modulus : c.from.result ≡ get_or set.moduli (get_or which (n - 1) 0) 0 = c.from.ensures ∙ c.modulus.ensures.value ∙ ap (slice_index set.moduli) c.at.ensures in
-    let scaled : c.loop-n.value * c.from.result ≡ get_or set.moduli (get_or which (n - 1) 0) 0 * digits_value (drop n (chosen which set.moduli)) (drop n ds) = turned c.loop-n.invariant modulus in
+    let scaled : c.loop-n.value * c.from.result ≡ get_or set.moduli (get_or which (n - 1) 0) 0 * digits_value (drop n (entries_at which set.moduli)) (drop n ds) = turned c.loop-n.invariant modulus in
     omega arith

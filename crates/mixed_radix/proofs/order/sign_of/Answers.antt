@@ -7,7 +7,7 @@ use Rattle.std.specs.Ordering.{nat_cmp}
 use Rattle.moduli_sets.specs.Moduli.{set_of}
 use Rattle.moduli_sets.specs.Set.{range_bound}
 use Rattle.mixed_radix.specs.Digits.{digits_value}
-use Rattle.mixed_radix.specs.Chosen.{AreBelow, chosen}
+use Rattle.mixed_radix.specs.Chosen.{AreBelow, entries_at}
 use Rattle.mixed_radix.proofs.ChosenLemmas.{AreBelow-range, info_below}
 use Rattle.mixed_radix.proofs.DigitLemmas.{digits_value-digits}
 use Rattle.mixed_radix.proofs.SignLemmas.{AreResidues-vector_of, HasInformation-from_number, Less-above_bound, int_cmp-within_bound}
@@ -32,7 +32,7 @@ pub returns-then-value-bound : goal.returns-then-value-bound
 returns-then-value-bound c = λ x in' is.
     let set = set_of c.args.set.now in
     let number = c.digits_of.ensures.number in
-    let cs = chosen c.info-which.result set.moduli in
+    let cs = entries_at c.info-which.result set.moduli in
     let value : c.value_of-value.result ≡ number.0 = c.value_of-value.ensures ∙ ap (digits_value cs) number.2 ∙ digits_value-digits cs number.0 number.1.small in
     let bound : nat_abs (cast_signed w128 (cast_unsigned w128 c.bound.result)) ≡ range_bound set = ap nat_abs (to_z-of_z w128 c.bound.result (search rules) ∙ c.bound.ensures) in
     let above : range_bound set < number.0 = omega arith in
@@ -42,7 +42,7 @@ pub returns-else-value-bound : goal.returns-else-value-bound
 returns-else-value-bound c = λ x in' is.
     let set = set_of c.args.set.now in
     let number = c.digits_of.ensures.number in
-    let cs = chosen c.info-which.result set.moduli in
+    let cs = entries_at c.info-which.result set.moduli in
     let value : c.value_of-value.result ≡ number.0 = c.value_of-value.ensures ∙ ap (digits_value cs) number.2 ∙ digits_value-digits cs number.0 number.1.small in
     let bound : nat_abs (cast_signed w128 (cast_unsigned w128 c.bound.result)) ≡ range_bound set = ap nat_abs (to_z-of_z w128 c.bound.result (search rules) ∙ c.bound.ensures) in
     let within : number.0 ≤ range_bound set = omega arith in

@@ -5,7 +5,7 @@ use Rattle.std.proofs.lemmas.Int.{to_z-of_z}
 use Rattle.command_words.specs.declared.job.Job.TheVariants.{Run, Decode, Encode, Set}
 use Rattle.word_options.specs.Operands.{file_name}
 use Rattle.word_options.proofs.FileNames.{boundary_of_whole_word}
-use Rattle.outside.specs.Shelf.{Held}
+use Rattle.outside.specs.Shelf.{ShelfFiles}
 use Rattle.moduli_sets.specs.Name.{set_of_name}
 use Rattle.moduli_sets.specs.Set.{IsInRange, ModuliSet}
 use Rattle.redundant_decoder.specs.declared.decoder.Verdict.{Verdict}
@@ -44,11 +44,11 @@ returns-in-Run-clause-answer g c =
     let source = c.in-Run.source in
     let name = file_name words source in
     let left = rw c.name_of.ensures at c.run.ensures.answer in
-    let held : ℕ → Held = λ n. left.0 in
+    let held : ℕ → ShelfFiles = λ n. left.0 in
     rw c.in-Run.is (
       held,
       (λ n. left.1),
-      leaves_as g.K.Sink.took g.K.Sink.state c.args.sink.now (IsRunAnswer left.0 name) (IsJobAnswer held words (Run source)) (IsStrayOf before after name) (IsStrayAmong before after (name ∷ []))
+      leaves_as g.K.Sink.puts g.K.Sink.state c.args.sink.now (IsRunAnswer left.0 name) (IsJobAnswer held words (Run source)) (IsStrayOf before after name) (IsStrayAmong before after (name ∷ []))
           (λ pieces status a. a) (λ pieces s. inl s) c.run.result c.run.new.sink left.2,
     )
 
@@ -63,7 +63,7 @@ returns-in-Mean-clause-answer g c =
     let before = (g.S.Shelf.state c.args.shelf.now).faults in
     let after = (g.S.Shelf.state c.mean.new.shelf).faults in
     let left = rw (c.name_of_any-input.ensures, c.name_of-in-Mean.ensures) at c.mean.ensures.answer in
-    let held : ℕ → Held = either_of left.0 left.1 in
+    let held : ℕ → ShelfFiles = either_of left.0 left.1 in
     rw c.in-Mean.is (held, agrees_either (g.S.Shelf.state c.args.shelf.now).told left.0 left.1 left.2 left.3, left.4)
 
 pub returns-in-Mean-clause-unread : goal.returns-in-Mean-clause-unread
@@ -78,9 +78,9 @@ returns-in-Decode-clause-answer g c =
     let set = c.in-Decode.set in
     let residues = c.in-Decode.residues in
     let held = some_held (g.S.Shelf.state c.args.shelf.now).told in
-    let decodes : ModuliSet → Type 0 = λ s. (verdict : Verdict) × IsVerdict s residues verdict × EndsPut g.K.Sink.took g.K.Sink.state c.args.sink.now (verdict_lines verdict) (verdict_status verdict) c.decode.result c.decode.new.sink in
+    let decodes : ModuliSet → Type 0 = λ s. (verdict : Verdict) × IsVerdict s residues verdict × EndsPut g.K.Sink.puts g.K.Sink.state c.args.sink.now (verdict_lines verdict) (verdict_status verdict) c.decode.result c.decode.new.sink in
     let left = subst decodes c.of.ensures c.decode.ensures in
-    rw c.in-Decode.is ((λ n. held.0), (λ n. held.1), leaves_answer g.K.Sink.took g.K.Sink.state c.args.sink.now (IsJobAnswer (λ n. held.0) words (Decode set residues)) (IsStrayAmong faults faults []) (verdict_status left.0) (verdict_is_whole left.0) (verdict_lines left.0) c.decode.result c.decode.new.sink (left.0, left.1, refl, refl) (inl left.2))
+    rw c.in-Decode.is ((λ n. held.0), (λ n. held.1), leaves_answer g.K.Sink.puts g.K.Sink.state c.args.sink.now (IsJobAnswer (λ n. held.0) words (Decode set residues)) (IsStrayAmong faults faults []) (verdict_status left.0) (verdict_is_whole left.0) (verdict_lines left.0) c.decode.result c.decode.new.sink (left.0, left.1, refl, refl) (inl left.2))
 
 pub returns-in-Encode-clause-answer : goal.returns-in-Encode-clause-answer
 returns-in-Encode-clause-answer g c =
@@ -91,9 +91,9 @@ returns-in-Encode-clause-answer g c =
     let fits : FitsSigned w128 x = search rules in
     let held = some_held (g.S.Shelf.state c.args.shelf.now).told in
     let lines = ap (λ s. encode_lines s (to_z w128 (of_z w128 x))) c.of-in-Encode.ensures ∙ ap (encode_lines (set_of_name set)) (to_z-of_z w128 x fits) in
-    let ends_with : List (List ℕ) → Type 0 = λ puts. EndsPut g.K.Sink.took g.K.Sink.state c.args.sink.now puts Ok c.encode.result c.encode.new.sink in
+    let ends_with : List (List ℕ) → Type 0 = λ puts. EndsPut g.K.Sink.puts g.K.Sink.state c.args.sink.now puts Ok c.encode.result c.encode.new.sink in
     let ends = subst ends_with lines c.encode.ensures in
-    rw c.in-Encode.is ((λ n. held.0), (λ n. held.1), leaves_answer g.K.Sink.took g.K.Sink.state c.args.sink.now (IsJobAnswer (λ n. held.0) words (Encode set x)) (IsStrayAmong faults faults []) Ok refl (encode_lines (set_of_name set) x) c.encode.result c.encode.new.sink (refl, refl) (inl ends))
+    rw c.in-Encode.is ((λ n. held.0), (λ n. held.1), leaves_answer g.K.Sink.puts g.K.Sink.state c.args.sink.now (IsJobAnswer (λ n. held.0) words (Encode set x)) (IsStrayAmong faults faults []) Ok refl (encode_lines (set_of_name set) x) c.encode.result c.encode.new.sink (refl, refl) (inl ends))
 
 pub returns-in-Set-clause-answer : goal.returns-in-Set-clause-answer
 returns-in-Set-clause-answer g c =
@@ -101,6 +101,6 @@ returns-in-Set-clause-answer g c =
     let faults = (g.S.Shelf.state c.args.shelf.now).faults in
     let set = c.in-Set.set in
     let held = some_held (g.S.Shelf.state c.args.shelf.now).told in
-    let ends_with : ModuliSet → Type 0 = λ s. EndsPut g.K.Sink.took g.K.Sink.state c.args.sink.now (set_lines s) Ok c.describe.result c.describe.new.sink in
+    let ends_with : ModuliSet → Type 0 = λ s. EndsPut g.K.Sink.puts g.K.Sink.state c.args.sink.now (set_lines s) Ok c.describe.result c.describe.new.sink in
     let ends = subst ends_with c.of-in-Set.ensures c.describe.ensures in
-    rw c.in-Set.is ((λ n. held.0), (λ n. held.1), leaves_answer g.K.Sink.took g.K.Sink.state c.args.sink.now (IsJobAnswer (λ n. held.0) words (Set set)) (IsStrayAmong faults faults []) Ok refl (set_lines (set_of_name set)) c.describe.result c.describe.new.sink (refl, refl) (inl ends))
+    rw c.in-Set.is ((λ n. held.0), (λ n. held.1), leaves_answer g.K.Sink.puts g.K.Sink.state c.args.sink.now (IsJobAnswer (λ n. held.0) words (Set set)) (IsStrayAmong faults faults []) Ok refl (set_lines (set_of_name set)) c.describe.result c.describe.new.sink (refl, refl) (inl ends))

@@ -16,7 +16,7 @@ returns-in-Some-clause-answer g c =
     let left = c.do_job.ensures.answer in (
       left.0,
       left.1,
-      leaves_as g.K.Sink.took g.K.Sink.state c.args.sink.now (IsJobAnswer left.0 words job) (IsAnswer left.0 words) (IsStrayAmong before after (files_of_job words job)) (IsStray before after words)
+      leaves_as g.K.Sink.puts g.K.Sink.state c.args.sink.now (IsJobAnswer left.0 words job) (IsAnswer left.0 words) (IsStrayAmong before after (files_of_job words job)) (IsStray before after words)
           (λ pieces status a. answer_for left.0 words (Some job) pieces status c.in-Some.ensures.value a)
           (λ pieces s. stray_for before after words (Some job) pieces c.in-Some.ensures.value s)
           c.do_job.result c.do_job.new.sink left.2,
@@ -28,7 +28,7 @@ returns-in-Some-clause-complete g c held told no_fetch_fault no_put_fault =
     let before = (g.S.Shelf.state c.args.shelf.now).faults in
     let after = (g.S.Shelf.state c.do_job.new.shelf).faults in
     let left = returns-in-Some-clause-answer g c in
-    elim (completes g.K.Sink.took g.K.Sink.state c.args.sink.now (IsAnswer left.0 words) (IsStray before after words) c.do_job.result c.do_job.new.sink (λ pieces s. none_stray before after (named_files words) pieces no_fetch_fault s) no_put_fault left.2) [
+    elim (completes g.K.Sink.puts g.K.Sink.state c.args.sink.now (IsAnswer left.0 words) (IsStray before after words) c.do_job.result c.do_job.new.sink (λ pieces s. none_stray before after (named_files words) pieces no_fetch_fault s) no_put_fault left.2) [
       | inl memory ↦ inl memory
       | inr (pieces, answer, wrote) ↦ inr (pieces, answer_told (g.S.Shelf.state c.args.shelf.now).told left.0 held words pieces c.do_job.result told left.1 answer, wrote)
     ]
@@ -48,7 +48,7 @@ returns-in-Some-clause-unwritten g c =
     let before = (g.S.Shelf.state c.args.shelf.now).faults in
     let after = (g.S.Shelf.state c.do_job.new.shelf).faults in
     let left = returns-in-Some-clause-answer g c in
-    unwritten g.K.Sink.took g.K.Sink.state c.args.sink.now (IsAnswer left.0 words) (IsStray before after words) c.do_job.result c.do_job.new.sink left.2
+    unwritten g.K.Sink.puts g.K.Sink.state c.args.sink.now (IsAnswer left.0 words) (IsStray before after words) c.do_job.result c.do_job.new.sink left.2
 
 pub returns-in-Some-clause-written : goal.returns-in-Some-clause-written
 returns-in-Some-clause-written g c =
@@ -56,7 +56,7 @@ returns-in-Some-clause-written g c =
     let before = (g.S.Shelf.state c.args.shelf.now).faults in
     let after = (g.S.Shelf.state c.do_job.new.shelf).faults in
     let left = returns-in-Some-clause-answer g c in
-    written g.K.Sink.took g.K.Sink.state c.args.sink.now (IsAnswer left.0 words) (IsStray before after words) c.do_job.result c.do_job.new.sink left.2
+    written g.K.Sink.puts g.K.Sink.state c.args.sink.now (IsAnswer left.0 words) (IsStray before after words) c.do_job.result c.do_job.new.sink left.2
 
 pub returns-in-Some-clause-timely : goal.returns-in-Some-clause-timely
 returns-in-Some-clause-timely g c =
@@ -64,7 +64,7 @@ returns-in-Some-clause-timely g c =
     let before = (g.S.Shelf.state c.args.shelf.now).faults in
     let after = (g.S.Shelf.state c.do_job.new.shelf).faults in
     let left = returns-in-Some-clause-answer g c in
-    timely g.K.Sink.took g.K.Sink.state c.args.sink.now (IsAnswer left.0 words) (IsStray before after words) c.do_job.result c.do_job.new.sink left.2
+    timely g.K.Sink.puts g.K.Sink.state c.args.sink.now (IsAnswer left.0 words) (IsStray before after words) c.do_job.result c.do_job.new.sink left.2
 
 pub returns-in-None-clause-answer : goal.returns-in-None-clause-answer
 returns-in-None-clause-answer g c =
@@ -72,4 +72,4 @@ returns-in-None-clause-answer g c =
     let faults = (g.S.Shelf.state c.args.shelf.now).faults in
     let held = some_held (g.S.Shelf.state c.args.shelf.now).told in
     let answer = answer_for (λ n. held.0) words None usage_lines Usage c.in-None.ensures.value (refl, refl) in
-    ((λ n. held.0), (λ n. held.1), leaves_answer g.K.Sink.took g.K.Sink.state c.args.sink.now (IsAnswer (λ n. held.0) words) (IsStray faults faults words) Usage refl usage_lines c.finish.result c.finish.new.sink answer (inl c.finish.ensures))
+    ((λ n. held.0), (λ n. held.1), leaves_answer g.K.Sink.puts g.K.Sink.state c.args.sink.now (IsAnswer (λ n. held.0) words) (IsStray faults faults words) Usage refl usage_lines c.finish.result c.finish.new.sink answer (inl c.finish.ensures))

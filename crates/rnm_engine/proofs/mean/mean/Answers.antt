@@ -22,7 +22,7 @@ returns-in-Ok-clause-answer g c =
       left.0,
       held.1,
       subst (λ t. Agrees t left.0) same left.1,
-      leaves_as g.K.Sink.took g.K.Sink.state c.args.sink.now (IsInputAnswer left.0 text input) (IsMeanAnswer held.0 left.0 name input)
+      leaves_as g.K.Sink.puts g.K.Sink.state c.args.sink.now (IsInputAnswer left.0 text input) (IsMeanAnswer held.0 left.0 name input)
           (IsStrayAmong (g.S.Shelf.state c.text_of.new.shelf).faults after (names_of input)) (IsStrayAmong before after (name ∷ names_of input))
           (λ pieces status a. answer_text (file_of held.0 name) name (λ t. IsInputAnswer left.0 t input) text pieces status held.2 c.in-Ok.ensures.whole.0 a)
           (λ pieces s. inr (subst (λ n. IsStrayAmong n after (names_of input) pieces) c.in-Ok.ensures.quiet.0 s)) c.with_input.result c.with_input.new.sink left.2,
@@ -39,7 +39,7 @@ returns-in-Err-clause-answer g c =
       left.0,
       left.1,
       left.1,
-      leaves_as g.K.Sink.took g.K.Sink.state c.args.sink.now (WithFile (file_of left.0 name) name NoAnswer) (IsMeanAnswer left.0 left.0 name input)
+      leaves_as g.K.Sink.puts g.K.Sink.state c.args.sink.now (WithFile (file_of left.0 name) name NoAnswer) (IsMeanAnswer left.0 left.0 name input)
           (IsStrayOf before after name) (IsStrayAmong before after (name ∷ names_of input))
           (λ pieces status a. answer_by_file (file_of left.0 name) name (λ t. IsInputAnswer left.0 t input) pieces status a)
           (λ pieces s. inl s) c.in-Err.status c.text_of.new.sink left.2,

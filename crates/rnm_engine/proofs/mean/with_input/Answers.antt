@@ -16,7 +16,7 @@ returns-in_default-clause-answer g c =
     rw c.in_default.is (
       held.0,
       held.1,
-      leaves_answered g.K.Sink.took g.K.Sink.state c.args.sink.now (IsInputAnswer held.0 text None) (IsStrayAmong faults faults []) (IsRefused text) c.refuse_source.result c.refuse_source.new.sink
+      leaves_answered g.K.Sink.puts g.K.Sink.state c.args.sink.now (IsInputAnswer held.0 text None) (IsStrayAmong faults faults []) (IsRefused text) c.refuse_source.result c.refuse_source.new.sink
           (refused_is_whole text) (λ pieces status a. a) c.refuse_source.ensures,
     )
 
@@ -32,7 +32,7 @@ returns-in-Ok-clause-answer g c =
     rw c.in-Some.is (
       held.0,
       held.1,
-      leaves_answered g.K.Sink.took g.K.Sink.state c.args.sink.now (IsInputAnswer held.0 text (Some name)) (IsStrayAmong before after (name ∷ [])) (IsRefused text)
+      leaves_answered g.K.Sink.puts g.K.Sink.state c.args.sink.now (IsInputAnswer held.0 text (Some name)) (IsStrayAmong before after (name ∷ [])) (IsRefused text)
           c.refuse_source-in-Ok.result c.refuse_source-in-Ok.new.sink
           (refused_is_whole text) (λ pieces status a. answer_text (file_of held.0 name) name (λ t. IsRefused text) other pieces status held.2 c.in-Ok.ensures.whole.0 a) ends,
     )
@@ -47,6 +47,6 @@ returns-in-Err-clause-answer g c =
     rw c.in-Some.is (
       left.0,
       left.1,
-      leaves_as g.K.Sink.took g.K.Sink.state c.args.sink.now (WithFile (file_of left.0 name) name NoAnswer) (IsInputAnswer left.0 text (Some name)) (IsStrayOf before after name) (IsStrayAmong before after (name ∷ []))
+      leaves_as g.K.Sink.puts g.K.Sink.state c.args.sink.now (WithFile (file_of left.0 name) name NoAnswer) (IsInputAnswer left.0 text (Some name)) (IsStrayOf before after name) (IsStrayAmong before after (name ∷ []))
           (λ pieces status a. answer_by_file (file_of left.0 name) name (λ t. IsRefused text) pieces status a) (λ pieces s. inl s) c.in-Err.status c.text_of.new.sink left.2,
     )

@@ -14,7 +14,7 @@ returns-in-Ok-clause-answer g c =
     let text = c.in-Ok.text.items in
     let held = held_whole (g.S.Shelf.state c.args.shelf.now).told name text c.in-Ok.ensures.whole.1 in
     let ends = rw (c.as_slice.ensures.value, c.in-Ok.ensures.quiet.1) at c.run_source.ensures in
-    (held.0, held.1, leaves_answered g.K.Sink.took g.K.Sink.state c.args.sink.now (IsRunAnswer held.0 name) (IsStrayOf before after name) (IsSourceAnswer text) c.run_source.result c.run_source.new.sink (source_is_whole text) (λ pieces status a. answer_text (file_of held.0 name) name IsSourceAnswer text pieces status held.2 c.in-Ok.ensures.whole.0 a) ends)
+    (held.0, held.1, leaves_answered g.K.Sink.puts g.K.Sink.state c.args.sink.now (IsRunAnswer held.0 name) (IsStrayOf before after name) (IsSourceAnswer text) c.run_source.result c.run_source.new.sink (source_is_whole text) (λ pieces status a. answer_text (file_of held.0 name) name IsSourceAnswer text pieces status held.2 c.in-Ok.ensures.whole.0 a) ends)
 
 pub returns-in-Err-clause-answer : goal.returns-in-Err-clause-answer
 returns-in-Err-clause-answer g c =
@@ -22,4 +22,4 @@ returns-in-Err-clause-answer g c =
     let after = (g.S.Shelf.state c.text_of.new.shelf).faults in
     let name = c.args.name.now in
     let left = c.in-Err.ensures.refused in
-    (left.0, left.1, leaves_as g.K.Sink.took g.K.Sink.state c.args.sink.now (WithFile (file_of left.0 name) name NoAnswer) (IsRunAnswer left.0 name) (IsStrayOf before after name) (IsStrayOf before after name) (λ pieces status a. answer_by_file (file_of left.0 name) name IsSourceAnswer pieces status a) (λ pieces s. s) c.in-Err.status c.text_of.new.sink left.2)
+    (left.0, left.1, leaves_as g.K.Sink.puts g.K.Sink.state c.args.sink.now (WithFile (file_of left.0 name) name NoAnswer) (IsRunAnswer left.0 name) (IsStrayOf before after name) (IsStrayOf before after name) (λ pieces status a. answer_by_file (file_of left.0 name) name IsSourceAnswer pieces status a) (λ pieces s. s) c.in-Err.status c.text_of.new.sink left.2)

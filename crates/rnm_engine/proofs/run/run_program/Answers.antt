@@ -9,8 +9,8 @@ use Rattle.rnm_engine.proofs.run.run_program.Goals as goal
 
 pub returns-in-Done : goal.returns-in-Done
 returns-in-Done g c =
-    inl (puts_after g.K.Sink.took g.K.Sink.state c.args.sink.now c.run.new.sink (print_lines (prints_of (program_view c.args.program.now))) last_lines Ok c.finish_run.result c.finish_run.new.sink c.in-Done.ensures c.finish_run.ensures)
+    inl (puts_after g.K.Sink.puts g.K.Sink.state c.args.sink.now c.run.new.sink (print_lines (prints_of (program_view c.args.program.now))) last_lines Ok c.finish_run.result c.finish_run.new.sink c.in-Done.ensures c.finish_run.ensures)
 
 pub returns-in-Failed : goal.returns-in-Failed
 returns-in-Failed g c =
-    inl (fails_before g.K.Sink.took g.K.Sink.state c.args.sink.now (print_lines (prints_of (program_view c.args.program.now))) last_lines Ok c.run.new.sink c.in-Failed.ensures)
+    inl (fails_before g.K.Sink.puts g.K.Sink.state c.args.sink.now (print_lines (prints_of (program_view c.args.program.now))) last_lines Ok c.run.new.sink c.in-Failed.ensures)

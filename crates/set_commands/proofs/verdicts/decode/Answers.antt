@@ -18,7 +18,7 @@ returns-in-Corrected g c =
     let i = c.in-Corrected.i in
     let fits : FitsSigned w128 x = search rules in
     let is_verdict : ModuliSet → Type 0 = λ set. IsVerdict set c.args.residues.now (Corrected x i) in
-    let ends_with : List ℕ → Type 0 = λ piece. EndsPut g.K.Sink.took g.K.Sink.state c.args.sink.now (piece ∷ []) Ok c.finish-in-Corrected.result c.finish-in-Corrected.new.sink in
+    let ends_with : List ℕ → Type 0 = λ piece. EndsPut g.K.Sink.puts g.K.Sink.state c.args.sink.now (piece ∷ []) Ok c.finish-in-Corrected.result c.finish-in-Corrected.new.sink in
     let piece =
     c.as_slice-in-Corrected.ensures.value
     ∙ c.corrected_line.ensures

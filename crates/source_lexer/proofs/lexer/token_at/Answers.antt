@@ -1,6 +1,6 @@
 use Rattle.std.proofs.Common.{sym, ap, ◌∙◌, ◌≡◌, true, get_or}
 use Rattle.std.specs.Char.{is_ascii_alphabetic, is_ascii_digit}
-use Rattle.source_lexer.proofs.LongestFronts.{first_is, word_front, longest_word, longest_number}
+use Rattle.source_lexer.proofs.LongestPrefixes.{first_is, word_prefix, longest_word, longest_number}
 use Rattle.source_lexer.proofs.lexer.token_at.Goals as goal
 
 pub word_kind-requires : goal.word_kind-requires
@@ -8,7 +8,7 @@ word_kind-requires c =
     let text = c.args.text.now in
     let first = first_is text c.in_ok-first.first.now c.in_ok-first.ensures.value in
     let letter : is_ascii_alphabetic (get_or text 0 0) ≡ true = ap is_ascii_alphabetic first.1 ∙ sym c.is_ascii_alphabetic.ensures.value ∙ c.if-is_ascii_alphabetic.true in
-    rw c.name_len-len.ensures (word_front text first.0 letter)
+    rw c.name_len-len.ensures (word_prefix text first.0 letter)
 
 pub returns-then-is_ascii_alphabetic : goal.returns-then-is_ascii_alphabetic
 returns-then-is_ascii_alphabetic c =

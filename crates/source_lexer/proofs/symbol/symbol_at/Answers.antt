@@ -1,4 +1,4 @@
-use Rattle.source_lexer.proofs.LongestFronts.{longest_pair, longest_byte, no_symbol}
+use Rattle.source_lexer.proofs.LongestPrefixes.{longest_pair, longest_byte, no_symbol}
 use Rattle.source_lexer.proofs.symbol.symbol_at.Goals as goal
 
 pub returns-in-Some : goal.returns-in-Some

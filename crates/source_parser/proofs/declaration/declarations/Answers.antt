@@ -1,6 +1,6 @@
 use Rattle.std.proofs.Common.{◌≤◌, length, arith}
 use Rattle.source_parser.specs.Grammar.{ReadsDeclaration}
-use Rattle.source_parser.specs.Fronts.{BeginsNoDeclaration}
+use Rattle.source_parser.specs.Prefixes.{BeginsNoDeclaration}
 use Rattle.source_parser.proofs.AllOf.{all_turn, all_end}
 use Rattle.source_parser.proofs.Declarations.{declaration_begins}
 use Rattle.source_parser.proofs.AllOf.{next_fails}
@@ -15,10 +15,10 @@ pub loop-found-preserved : goal.loop-found-preserved
 loop-found-preserved c =
     let now = c.loop-found.reader in
     let next = c.declaration.new.reader in
-    let front = rw c.in-Some.is at c.in_ok-next.ensures.value in
+    let prefix = rw c.in-Some.is at c.in_ok-next.ensures.value in
     let shorter = rw c.in-Some.is at c.in_ok-next.ensures.shorter in
     let less : length next ≤ length now = omega (arith, shorter) in
-    rw c.in_ok-push.ensures.ok (all_turn (ReadsDeclaration 64 200) BeginsNoDeclaration (declaration_begins 64 200) c.args.reader.now now next c.loop-found.found c.in-Some.next c.loop-found.invariant front less)
+    rw c.in_ok-push.ensures.ok (all_turn (ReadsDeclaration 64 200) BeginsNoDeclaration (declaration_begins 64 200) c.args.reader.now now next c.loop-found.found c.in-Some.next c.loop-found.invariant prefix less)
 
 pub returns-clause-value : goal.returns-clause-value
 returns-clause-value c =

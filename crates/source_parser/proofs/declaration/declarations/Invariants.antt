@@ -1,7 +1,7 @@
 use Rattle.std.proofs.Common.{length}
 use Rattle.source_parser.specs.Grammar.{ReadsAll, ReadsDeclaration}
-use Rattle.source_parser.specs.Fronts.{BeginsNoDeclaration}
-use Rattle.source_parser.proofs.Listing.{Listing}
+use Rattle.source_parser.specs.Prefixes.{BeginsNoDeclaration}
+use Rattle.source_parser.proofs.ListInvariants.{Listing}
 use Rattle.source_parser.proofs.declaration.declarations.Given as goal
 
 abbrev pub invariant-loop-found : goal.invariant-loop-found

@@ -1,6 +1,6 @@
 use Rattle.std.proofs.Common.{length}
 use Rattle.source_parser.specs.Grammar.{ReadsParam}
-use Rattle.source_parser.proofs.Listing.{Gathering}
+use Rattle.source_parser.proofs.ListInvariants.{Gathering}
 use Rattle.source_parser.proofs.declaration.params.Given as goal
 
 abbrev pub invariant-loop-alloc : goal.invariant-loop-alloc

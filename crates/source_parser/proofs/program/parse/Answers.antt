@@ -9,8 +9,8 @@ new-reader-requires c = placed_tokens c.args.text.now c.args.tokens.now whole c.
 
 pub returns-in-Ok : goal.returns-in-Ok
 returns-in-Ok c =
-    let front = rw (c.in-Ok.ensures.whole, c.new-reader.ensures) at c.in-Ok.ensures.value in
-    (front.reads, λ other spelled. (front.only other [] spelled refl).0)
+    let prefix = rw (c.in-Ok.ensures.whole, c.new-reader.ensures) at c.in-Ok.ensures.value in
+    (prefix.reads, λ other spelled. (prefix.only other [] spelled refl).0)
 
 pub returns : goal.returns
 returns c =

@@ -1,8 +1,8 @@
 use Rattle.std.proofs.Common.{length, ap, arith}
 use Rattle.source_parser.specs.Grammar.{ReadsAll, ReadsDeclaration, ReadsProgram, ReadsStatements}
-use Rattle.source_parser.specs.Fronts.{AtEnd, BeginsNoDeclaration, BeginsNoStatement}
-use Rattle.source_parser.proofs.Declarations.{follows_declarations, no_program_without_declarations, no_program_without_statements, no_program_with_more, program_front}
-use Rattle.source_parser.proofs.Failing.{part_fails}
+use Rattle.source_parser.specs.Prefixes.{AtEnd, BeginsNoDeclaration, BeginsNoStatement}
+use Rattle.source_parser.proofs.Declarations.{follows_declarations, no_program_without_declarations, no_program_without_statements, no_program_with_more, program_prefix}
+use Rattle.source_parser.proofs.FailureLemmas.{part_fails}
 use Rattle.source_parser.proofs.program.program.Goals as goal
 
 pub returns-in_err-declarations-clause-value : goal.returns-in_err-declarations-clause-value
@@ -24,5 +24,5 @@ returns-then-len-gt0-clause-value c =
 
 pub returns-clause-value : goal.returns-clause-value
 returns-clause-value c =
-    program_front 64 200 c.args.reader.now c.in_ok-declarations.declarations c.declarations.new.reader c.in_ok-declarations.ensures.value (follows_declarations 200 64)
+    program_prefix 64 200 c.args.reader.now c.in_ok-declarations.declarations c.declarations.new.reader c.in_ok-declarations.ensures.value (follows_declarations 200 64)
     c.in_ok-statements.statements c.statements.new.reader c.in_ok-statements.ensures.value

@@ -5,46 +5,46 @@ use Rattle.std.proofs.lemmas.Result.{err_from_is_err_and}
 use mir.Val.{SFits}
 use mir.Syntax.{w128}
 use Rattle.source_lexer.specs.declared.token.TokenKind.TheVariants as kind
-use Rattle.source_parser.specs.Symbols.{mark, word}
+use Rattle.source_parser.specs.Terminals.{fixed, identifier}
 use Rattle.source_parser.specs.Grammar.{ReadsStatement, ReadsStatements}
-use Rattle.source_parser.specs.Fronts.{Anything, BeginsNoStatement, ReadsBounds, ReadsBranches}
-use Rattle.source_parser.proofs.Sequences.{begun_front, begun_none, passes, fails, passes_next, fails_next, passes_from_next, taken, not_taken}
-use Rattle.source_parser.proofs.Sequences.{allowed_not_taken, word_taken, next_told, none_told, next_shorter, closed_front, closed_none, closed_missing}
-use Rattle.source_parser.proofs.Sequences.{both_front, both_none, both_stops}
-use Rattle.source_parser.proofs.StatementParts.{PrintBehind, ReadBehind, NamedBehind}
-use Rattle.source_parser.proofs.Statements.{IfBehind, ForBehind, WhileBehind, EndElse, EndStatements, if_, for_, while_, nesting_begins, nesting_none}
+use Rattle.source_parser.specs.Prefixes.{Anything, BeginsNoStatement, ReadsBounds, ReadsBranches}
+use Rattle.source_parser.proofs.Sequences.{begun_prefix, begun_none, passes, fails, passes_next, fails_next, passes_from_next, taken, not_taken}
+use Rattle.source_parser.proofs.Sequences.{within_not_taken, identifier_taken, next_told, none_told, next_shorter, closed_prefix, closed_none, closed_missing}
+use Rattle.source_parser.proofs.Sequences.{both_prefix, both_none, both_stops}
+use Rattle.source_parser.proofs.StatementParts.{AfterPrint, AfterRead, AfterName}
+use Rattle.source_parser.proofs.Statements.{AfterIf, AfterFor, AfterWhile, EndElse, EndStatements, if_, for_, while_, nesting_begins, nesting_none}
 use Rattle.source_parser.proofs.Statements.{name_begins, print_begins, read_begins, listing_goes_on, listing_ends, listing_fails}
-use Rattle.source_parser.proofs.Statements.{end_ended, end_front, end_missing, else_tells}
-use Rattle.source_parser.proofs.Statements.{ThenCondition, choice_no_condition, choice_no_branches, choice_front, else_leads}
-use Rattle.source_parser.proofs.Statements.{Counter, count_no_counter, count_no_bounds, count_no_body, count_front}
-use Rattle.source_parser.proofs.Statements.{LimitCondition, DoNumeral, repetition_no_condition, repetition_no_limit, repetition_no_body, repetition_front}
+use Rattle.source_parser.proofs.Statements.{end_ended, end_prefix, end_missing, else_parses}
+use Rattle.source_parser.proofs.Statements.{ThenCondition, if_no_condition, if_no_branches, if_prefix, else_leads}
+use Rattle.source_parser.proofs.Statements.{Counter, for_no_counter, for_no_bounds, for_no_body, for_prefix}
+use Rattle.source_parser.proofs.Statements.{LimitCondition, DoLiteral, while_no_condition, while_no_limit, while_no_body, while_prefix}
 use Rattle.source_parser.proofs.statement.+statement.Goals as goal
 
 -- ---- `if`
-pub choice-returns-in_err-condition-clause-value : goal.choice-returns-in_err-condition-clause-value
-choice-returns-in_err-condition-clause-value t c =
+pub if_statement-returns-in_err-condition-clause-value : goal.if_statement-returns-in_err-condition-clause-value
+if_statement-returns-in_err-condition-clause-value t c =
     let old = c.args.reader.now in
     let failed = err_from_is_err_and c.from_residual.result c.from_residual.ensures.1 in
     rw (failed.1, failed.2) (
-    passes (ThenCondition 200) Anything old c.choice_condition.new.reader (IfBehind 200 c.args.depth c.args.line) Anything old c.choice_condition.new.reader
+    passes (ThenCondition 200) Anything old c.if_condition.new.reader (AfterIf 200 c.args.depth c.args.line) Anything old c.if_condition.new.reader
     c.in_err-condition.field-0.0 c.in_err-condition.ensures.value
-    (choice_no_condition 200 c.args.depth c.args.line old)
+    (if_no_condition 200 c.args.depth c.args.line old)
     )
 
-pub choice-returns-in_err-first-clause-value : goal.choice-returns-in_err-first-clause-value
-choice-returns-in_err-first-clause-value t c =
+pub if_statement-returns-in_err-first-clause-value : goal.if_statement-returns-in_err-first-clause-value
+if_statement-returns-in_err-first-clause-value t c =
     let old = c.args.reader.now in
     let failed = err_from_is_err_and c.from_residual-in_err-first.result c.from_residual-in_err-first.ensures.1 in
     rw (failed.1, failed.2) (
-    passes (ReadsBranches 200 c.args.depth) Anything c.choice_condition.new.reader c.branches.new.reader
-    (IfBehind 200 c.args.depth c.args.line) Anything old c.branches.new.reader c.in_err-first.field-0.0 c.in_err-first.ensures.value
-    (choice_no_branches 200 c.args.depth c.args.line old c.choice_condition.new.reader c.in_ok-condition.condition c.in_ok-condition.ensures.value)
+    passes (ReadsBranches 200 c.args.depth) Anything c.if_condition.new.reader c.branches.new.reader
+    (AfterIf 200 c.args.depth c.args.line) Anything old c.branches.new.reader c.in_err-first.field-0.0 c.in_err-first.ensures.value
+    (if_no_branches 200 c.args.depth c.args.line old c.if_condition.new.reader c.in_ok-condition.condition c.in_ok-condition.ensures.value)
     )
 
-pub choice-returns-clause-value : goal.choice-returns-clause-value
-choice-returns-clause-value t c =
+pub if_statement-returns-clause-value : goal.if_statement-returns-clause-value
+if_statement-returns-clause-value t c =
     let old = c.args.reader.now in
-    choice_front 200 c.args.depth c.args.line old c.choice_condition.new.reader c.in_ok-condition.condition c.in_ok-condition.ensures.value
+    if_prefix 200 c.args.depth c.args.line old c.if_condition.new.reader c.in_ok-condition.condition c.in_ok-condition.ensures.value
     c.branches.new.reader (c.in_ok-first.first, c.in_ok-first.second) c.in_ok-first.ensures.value
 
 pub branches-returns-in_err-first-clause-value : goal.branches-returns-in_err-first-clause-value
@@ -62,7 +62,7 @@ pub branches-returns-in_err-second-clause-value : goal.branches-returns-in_err-s
 branches-returns-in_err-second-clause-value t c =
     let old = c.args.reader.now in
     let now = c.statements.new.reader in
-    let new = c.otherwise.new.reader in
+    let new = c.else_part.new.reader in
     let failed = err_from_is_err_and c.from_residual-in_err-second.result c.from_residual-in_err-second.ensures.1 in
     rw (failed.1, failed.2) (
     passes (EndElse 200 c.args.depth) Anything now new (ReadsBranches 200 c.args.depth) Anything old new
@@ -73,52 +73,52 @@ branches-returns-in_err-second-clause-value t c =
 
 pub branches-returns-clause-value : goal.branches-returns-clause-value
 branches-returns-clause-value t c =
-    both_front (ReadsStatements 200 c.args.depth) BeginsNoStatement (EndElse 200 c.args.depth) Anything (else_leads 200 c.args.depth)
-    c.args.reader.now c.statements.new.reader c.otherwise.new.reader c.in_ok-first.first c.in_ok-second.second c.in_ok-first.ensures.value
+    both_prefix (ReadsStatements 200 c.args.depth) BeginsNoStatement (EndElse 200 c.args.depth) Anything (else_leads 200 c.args.depth)
+    c.args.reader.now c.statements.new.reader c.else_part.new.reader c.in_ok-first.first c.in_ok-second.second c.in_ok-first.ensures.value
     c.in_ok-second.ensures.value
 
 -- ---- `for`
-pub count-returns-in_err-name-clause-value : goal.count-returns-in_err-name-clause-value
-count-returns-in_err-name-clause-value t c =
+pub for_statement-returns-in_err-name-clause-value : goal.for_statement-returns-in_err-name-clause-value
+for_statement-returns-in_err-name-clause-value t c =
     let old = c.args.reader.now in
     let failed = err_from_is_err_and c.from_residual.result c.from_residual.ensures.1 in
     rw (failed.1, failed.2) (
-    passes Counter Anything old c.counter.new.reader (ForBehind 200 c.args.depth c.args.line) Anything old c.counter.new.reader
+    passes Counter Anything old c.counter.new.reader (AfterFor 200 c.args.depth c.args.line) Anything old c.counter.new.reader
     c.in_err-name.field-0.0 c.in_err-name.ensures.value
-    (count_no_counter 200 c.args.depth c.args.line old)
+    (for_no_counter 200 c.args.depth c.args.line old)
     )
 
-pub count-returns-in_err-first-clause-value : goal.count-returns-in_err-first-clause-value
-count-returns-in_err-first-clause-value t c =
+pub for_statement-returns-in_err-first-clause-value : goal.for_statement-returns-in_err-first-clause-value
+for_statement-returns-in_err-first-clause-value t c =
     let old = c.args.reader.now in
     let failed = err_from_is_err_and c.from_residual-in_err-first.result c.from_residual-in_err-first.ensures.1 in
     rw (failed.1, failed.2) (
-    passes (ReadsBounds 200) Anything c.counter.new.reader c.bounds.new.reader (ForBehind 200 c.args.depth c.args.line) Anything old c.bounds.new.reader
+    passes (ReadsBounds 200) Anything c.counter.new.reader c.bounds.new.reader (AfterFor 200 c.args.depth c.args.line) Anything old c.bounds.new.reader
     c.in_err-first.field-0.0 c.in_err-first.ensures.value
-    (count_no_bounds 200 c.args.depth c.args.line old c.counter.new.reader c.in_ok-name.name c.in_ok-name.ensures.value)
+    (for_no_bounds 200 c.args.depth c.args.line old c.counter.new.reader c.in_ok-name.name c.in_ok-name.ensures.value)
     )
 
-pub count-returns-in_err-body-clause-value : goal.count-returns-in_err-body-clause-value
-count-returns-in_err-body-clause-value t c =
+pub for_statement-returns-in_err-body-clause-value : goal.for_statement-returns-in_err-body-clause-value
+for_statement-returns-in_err-body-clause-value t c =
     let old = c.args.reader.now in
     let failed = err_from_is_err_and c.from_residual-in_err-body.result c.from_residual-in_err-body.ensures.1 in
     rw (failed.1, failed.2) (
-    passes (EndStatements 200 c.args.depth) Anything c.bounds.new.reader c.body.new.reader (ForBehind 200 c.args.depth c.args.line) Anything old c.body.new.reader
+    passes (EndStatements 200 c.args.depth) Anything c.bounds.new.reader c.body.new.reader (AfterFor 200 c.args.depth c.args.line) Anything old c.body.new.reader
     c.in_err-body.field-0.0 c.in_err-body.ensures.value
-    (count_no_body 200 c.args.depth c.args.line old c.counter.new.reader c.in_ok-name.name c.in_ok-name.ensures.value
+    (for_no_body 200 c.args.depth c.args.line old c.counter.new.reader c.in_ok-name.name c.in_ok-name.ensures.value
     c.bounds.new.reader (c.in_ok-first.first, c.in_ok-first.last) c.in_ok-first.ensures.value)
     )
 
-pub count-returns-clause-value : goal.count-returns-clause-value
-count-returns-clause-value t c =
+pub for_statement-returns-clause-value : goal.for_statement-returns-clause-value
+for_statement-returns-clause-value t c =
     let old = c.args.reader.now in
-    count_front 200 c.args.depth c.args.line old c.counter.new.reader c.in_ok-name.name c.in_ok-name.ensures.value
+    for_prefix 200 c.args.depth c.args.line old c.counter.new.reader c.in_ok-name.name c.in_ok-name.ensures.value
     c.bounds.new.reader (c.in_ok-first.first, c.in_ok-first.last) c.in_ok-first.ensures.value
     c.body.new.reader c.in_ok-body.body c.in_ok-body.ensures.value
 
 -- ---- `else`
-pub otherwise-returns-in_err-expect-clause-value : goal.otherwise-returns-in_err-expect-clause-value
-otherwise-returns-in_err-expect-clause-value t c =
+pub else_part-returns-in_err-expect-clause-value : goal.else_part-returns-in_err-expect-clause-value
+else_part-returns-in_err-expect-clause-value t c =
     let old = c.args.reader.now in
     let alone = not_taken kind.Else old c.take.result c.take.new.self c.take.ensures.value (sym c.if-is_none.ensures) in
     let failed = err_from_is_err_and c.from_residual.result c.from_residual.ensures.1 in
@@ -127,19 +127,19 @@ otherwise-returns-in_err-expect-clause-value t c =
     (end_missing 200 c.args.depth old alone.1 (rw alone.0 at c.in_err-expect.ensures.value.1))
     )
 
-pub otherwise-returns-then-is_none-clause-value : goal.otherwise-returns-then-is_none-clause-value
-otherwise-returns-then-is_none-clause-value t c =
+pub else_part-returns-then-is_none-clause-value : goal.else_part-returns-then-is_none-clause-value
+else_part-returns-then-is_none-clause-value t c =
     let old = c.args.reader.now in
     let alone = not_taken kind.Else old c.take.result c.take.new.self c.take.ensures.value (sym c.if-is_none.ensures) in
     rw c.new.ensures (
-    end_front 200 c.args.depth old c.expect.new.self c.in_ok-expect.field-0 alone.1 (rw alone.0 at c.in_ok-expect.ensures.value)
+    end_prefix 200 c.args.depth old c.expect.new.self c.in_ok-expect.field-0 alone.1 (rw alone.0 at c.in_ok-expect.ensures.value)
     )
 
-pub otherwise-returns-clause-value : goal.otherwise-returns-clause-value
-otherwise-returns-clause-value t c =
+pub else_part-returns-clause-value : goal.else_part-returns-clause-value
+else_part-returns-clause-value t c =
     let old = c.args.reader.now in
     let stands = taken kind.Else old c.take.result c.take.new.self c.take.ensures.value (sym c.if-is_none.ensures) in
-    else_tells 200 c.args.depth old c.take.new.self stands.0 stands.1 c.body.result c.body.new.reader c.body.ensures.value
+    else_parses 200 c.args.depth old c.take.new.self stands.0 stands.1 c.body.result c.body.new.reader c.body.ensures.value
 
 -- ---- statements and `end`
 pub body-returns-in_err-found-clause-value : goal.body-returns-in_err-found-clause-value
@@ -165,48 +165,48 @@ body-returns-in_err-expect-clause-value t c =
 pub body-returns-clause-value : goal.body-returns-clause-value
 body-returns-clause-value t c =
     let old = c.args.reader.now in
-    closed_front (ReadsStatements 200 c.args.depth) BeginsNoStatement kind.End end_ended Anything old c.statements.new.reader c.expect.new.self c.in_ok-found.found
+    closed_prefix (ReadsStatements 200 c.args.depth) BeginsNoStatement kind.End end_ended Anything old c.statements.new.reader c.expect.new.self c.in_ok-found.found
     c.in_ok-expect.field-0 c.in_ok-found.ensures.value c.in_ok-expect.ensures.value
 
 -- ---- `while`
-pub repetition-returns-in_err-condition-clause-value : goal.repetition-returns-in_err-condition-clause-value
-repetition-returns-in_err-condition-clause-value t c =
+pub while_statement-returns-in_err-condition-clause-value : goal.while_statement-returns-in_err-condition-clause-value
+while_statement-returns-in_err-condition-clause-value t c =
     let old = c.args.reader.now in
     let failed = err_from_is_err_and c.from_residual.result c.from_residual.ensures.1 in
     rw (failed.1, failed.2) (
-    passes (LimitCondition 200) Anything old c.limited_condition.new.reader (WhileBehind 200 c.args.depth c.args.line) Anything old c.limited_condition.new.reader
+    passes (LimitCondition 200) Anything old c.limited_condition.new.reader (AfterWhile 200 c.args.depth c.args.line) Anything old c.limited_condition.new.reader
     c.in_err-condition.field-0.0 c.in_err-condition.ensures.value
-    (repetition_no_condition 200 c.args.depth c.args.line old)
+    (while_no_condition 200 c.args.depth c.args.line old)
     )
 
-pub repetition-returns-in_err-limit-clause-value : goal.repetition-returns-in_err-limit-clause-value
-repetition-returns-in_err-limit-clause-value t c =
+pub while_statement-returns-in_err-limit-clause-value : goal.while_statement-returns-in_err-limit-clause-value
+while_statement-returns-in_err-limit-clause-value t c =
     let old = c.args.reader.now in
     let failed = err_from_is_err_and c.from_residual-in_err-limit.result c.from_residual-in_err-limit.ensures.1 in
     rw (failed.1, failed.2) (
-    passes DoNumeral Anything c.limited_condition.new.reader c.limit.new.reader (WhileBehind 200 c.args.depth c.args.line) Anything old c.limit.new.reader
+    passes DoLiteral Anything c.limited_condition.new.reader c.limit.new.reader (AfterWhile 200 c.args.depth c.args.line) Anything old c.limit.new.reader
     c.in_err-limit.field-0.0 c.in_err-limit.ensures.value
-    (repetition_no_limit 200 c.args.depth c.args.line old c.limited_condition.new.reader c.in_ok-condition.condition c.in_ok-condition.ensures.value)
+    (while_no_limit 200 c.args.depth c.args.line old c.limited_condition.new.reader c.in_ok-condition.condition c.in_ok-condition.ensures.value)
     )
 
-pub repetition-returns-in_err-body-clause-value : goal.repetition-returns-in_err-body-clause-value
-repetition-returns-in_err-body-clause-value t c =
+pub while_statement-returns-in_err-body-clause-value : goal.while_statement-returns-in_err-body-clause-value
+while_statement-returns-in_err-body-clause-value t c =
     let old = c.args.reader.now in
     let failed = err_from_is_err_and c.from_residual-in_err-body.result c.from_residual-in_err-body.ensures.1 in
     rw (failed.1, failed.2) (
-    passes (EndStatements 200 c.args.depth) Anything c.limit.new.reader c.body.new.reader (WhileBehind 200 c.args.depth c.args.line) Anything old c.body.new.reader
+    passes (EndStatements 200 c.args.depth) Anything c.limit.new.reader c.body.new.reader (AfterWhile 200 c.args.depth c.args.line) Anything old c.body.new.reader
     c.in_err-body.field-0.0 c.in_err-body.ensures.value
-    (repetition_no_body 200 c.args.depth c.args.line old c.limited_condition.new.reader c.in_ok-condition.condition c.in_ok-condition.ensures.value
+    (while_no_body 200 c.args.depth c.args.line old c.limited_condition.new.reader c.in_ok-condition.condition c.in_ok-condition.ensures.value
     c.limit.new.reader c.in_ok-limit.limit c.in_ok-limit.ensures.value)
     )
 
-pub repetition-returns-clause-value : goal.repetition-returns-clause-value
-repetition-returns-clause-value t c =
+pub while_statement-returns-clause-value : goal.while_statement-returns-clause-value
+while_statement-returns-clause-value t c =
     let old = c.args.reader.now in
     let fits : SFits w128 c.in_ok-limit.limit = search rules in
     let value = to_z-of_z w128 c.in_ok-limit.limit fits in
     rw value (
-    repetition_front 200 c.args.depth c.args.line old c.limited_condition.new.reader c.in_ok-condition.condition c.in_ok-condition.ensures.value
+    while_prefix 200 c.args.depth c.args.line old c.limited_condition.new.reader c.in_ok-condition.condition c.in_ok-condition.ensures.value
     c.limit.new.reader c.in_ok-limit.limit c.in_ok-limit.ensures.value
     c.body.new.reader c.in_ok-body.body c.in_ok-body.ensures.value
     )
@@ -219,15 +219,15 @@ statement-returns-in_err-print-clause-value t c =
     let now = c.print.new.reader in
     let failed = err_from_is_err_and c.from_residual.result c.from_residual.ensures.1 in
     rw (failed.1, failed.2) (
-    passes_next (PrintBehind 200 c.args.depth c.in-Some.line) Anything behind now (ReadsStatement 200 c.args.depth) BeginsNoStatement old now
+    passes_next (AfterPrint 200 c.args.depth c.in-Some.line) Anything behind now (ReadsStatement 200 c.args.depth) BeginsNoStatement old now
     c.in_err-print.field-0.0 (c.in_err-print.ensures.value c.args.depth)
-    (begun_none (ReadsStatement 200 c.args.depth) Anything (mark kind.Print c.in-Some.line) old behind c.in-Some.ensures.value)
+    (begun_none (ReadsStatement 200 c.args.depth) Anything (fixed kind.Print c.in-Some.line) old behind c.in-Some.ensures.value)
     (print_begins c.in-Some.ensures.value)
     )
 
 pub statement-returns-in-Some-clause-value : goal.statement-returns-in-Some-clause-value
 statement-returns-in-Some-clause-value t c =
-    begun_front (ReadsStatement 200 c.args.depth) Anything (mark kind.Print c.in-Some.line) c.args.reader.now c.take.new.self c.in-Some.ensures.value
+    begun_prefix (ReadsStatement 200 c.args.depth) Anything (fixed kind.Print c.in-Some.line) c.args.reader.now c.take.new.self c.in-Some.ensures.value
     c.print.new.reader c.in_ok-print.field-0
     (c.in_ok-print.ensures.value c.args.depth)
 
@@ -239,15 +239,15 @@ statement-returns-in_err-read-clause-value t c =
     let stands = rw c.in_default.ensures.value.0 at c.in-Some-take.ensures.value in
     let failed = err_from_is_err_and c.from_residual-in_err-read.result c.from_residual-in_err-read.ensures.1 in
     rw (failed.1, failed.2) (
-    passes_next (ReadBehind 200 c.args.depth c.in-Some-take.line) Anything behind now (ReadsStatement 200 c.args.depth) BeginsNoStatement old now
+    passes_next (AfterRead 200 c.args.depth c.in-Some-take.line) Anything behind now (ReadsStatement 200 c.args.depth) BeginsNoStatement old now
     c.in_err-read.field-0.0 (c.in_err-read.ensures.value c.args.depth)
-    (begun_none (ReadsStatement 200 c.args.depth) Anything (mark kind.Read c.in-Some-take.line) old behind stands) (read_begins stands)
+    (begun_none (ReadsStatement 200 c.args.depth) Anything (fixed kind.Read c.in-Some-take.line) old behind stands) (read_begins stands)
     )
 
 pub statement-returns-in-Some-take-clause-value : goal.statement-returns-in-Some-take-clause-value
 statement-returns-in-Some-take-clause-value t c =
     let stands = rw c.in_default.ensures.value.0 at c.in-Some-take.ensures.value in
-    begun_front (ReadsStatement 200 c.args.depth) Anything (mark kind.Read c.in-Some-take.line) c.args.reader.now c.take-2.new.self stands c.read.new.reader
+    begun_prefix (ReadsStatement 200 c.args.depth) Anything (fixed kind.Read c.in-Some-take.line) c.args.reader.now c.take-2.new.self stands c.read.new.reader
     c.in_ok-read.field-0 (c.in_ok-read.ensures.value c.args.depth)
 
 pub statement-returns-in_err-line-clause-value : goal.statement-returns-in_err-line-clause-value
@@ -258,7 +258,7 @@ statement-returns-in_err-line-clause-value t c =
     let stands = rw unread at deep.4 in
     let failed = err_from_is_err_and c.from_residual-in_err-line.result c.from_residual-in_err-line.ensures.1 in
     rw (failed.1, failed.2) (
-    fails_next (ReadsStatement 200 c.args.depth) BeginsNoStatement old c.take_allowed.new.self c.in_err-line.field-0.0
+    fails_next (ReadsStatement 200 c.args.depth) BeginsNoStatement old c.take_within.new.self c.in_err-line.field-0.0
     (nesting_none 200 c.args.depth old deep.3 kind.If deep.2 if_ deep.1 stands) (nesting_begins if_ stands)
     )
 
@@ -266,14 +266,14 @@ pub statement-returns-in_err-line-2-clause-value : goal.statement-returns-in_err
 statement-returns-in_err-line-2-clause-value t c =
     let old = c.args.reader.now in
     let unread = c.in_default-take.ensures.value.0 ∙ c.in_default.ensures.value.0 in
-    let no_if = allowed_not_taken kind.If c.args.depth c.take-2.new.self c.in_ok-line.field-0 c.take_allowed.new.self c.in_ok-line.ensures.value
+    let no_if = within_not_taken kind.If c.args.depth c.take-2.new.self c.in_ok-line.field-0 c.take_within.new.self c.in_ok-line.ensures.value
     c.in_default-2.is in
     let unread_2 = no_if.0 ∙ unread in
     let deep = c.in_err-line-2.ensures.value in
     let stands = rw unread_2 at deep.4 in
     let failed = err_from_is_err_and c.from_residual-in_err-line-2.result c.from_residual-in_err-line-2.ensures.1 in
     rw (failed.1, failed.2) (
-    fails_next (ReadsStatement 200 c.args.depth) BeginsNoStatement old c.take_allowed-2.new.self c.in_err-line-2.field-0.0
+    fails_next (ReadsStatement 200 c.args.depth) BeginsNoStatement old c.take_within-2.new.self c.in_err-line-2.field-0.0
     (nesting_none 200 c.args.depth old deep.3 kind.For deep.2 for_ deep.1 stands) (nesting_begins for_ stands)
     )
 
@@ -281,59 +281,59 @@ pub statement-returns-in_err-line-3-clause-value : goal.statement-returns-in_err
 statement-returns-in_err-line-3-clause-value t c =
     let old = c.args.reader.now in
     let unread = c.in_default-take.ensures.value.0 ∙ c.in_default.ensures.value.0 in
-    let no_if = allowed_not_taken kind.If c.args.depth c.take-2.new.self c.in_ok-line.field-0 c.take_allowed.new.self c.in_ok-line.ensures.value
+    let no_if = within_not_taken kind.If c.args.depth c.take-2.new.self c.in_ok-line.field-0 c.take_within.new.self c.in_ok-line.ensures.value
     c.in_default-2.is in
     let unread_2 = no_if.0 ∙ unread in
-    let no_for = allowed_not_taken kind.For c.args.depth c.take_allowed.new.self c.in_ok-line-2.field-0 c.take_allowed-2.new.self c.in_ok-line-2.ensures.value
+    let no_for = within_not_taken kind.For c.args.depth c.take_within.new.self c.in_ok-line-2.field-0 c.take_within-2.new.self c.in_ok-line-2.ensures.value
     c.in_default-3.is in
     let unread_3 = no_for.0 ∙ unread_2 in
     let deep = c.in_err-line-3.ensures.value in
     let stands = rw unread_3 at deep.4 in
     let failed = err_from_is_err_and c.from_residual-in_err-line-3.result c.from_residual-in_err-line-3.ensures.1 in
     rw (failed.1, failed.2) (
-    fails_next (ReadsStatement 200 c.args.depth) BeginsNoStatement old c.take_allowed-3.new.self c.in_err-line-3.field-0.0
+    fails_next (ReadsStatement 200 c.args.depth) BeginsNoStatement old c.take_within-3.new.self c.in_err-line-3.field-0.0
     (nesting_none 200 c.args.depth old deep.3 kind.While deep.2 while_ deep.1 stands) (nesting_begins while_ stands)
     )
 
-pub statement-returns-in_err-named-in-Some-5-clause-value : goal.statement-returns-in_err-named-in-Some-5-clause-value
-statement-returns-in_err-named-in-Some-5-clause-value t c =
+pub statement-returns-in_err-assignment_or_call-in-Some-5-clause-value : goal.statement-returns-in_err-assignment_or_call-in-Some-5-clause-value
+statement-returns-in_err-assignment_or_call-in-Some-5-clause-value t c =
     let old = c.args.reader.now in
     let unread = c.in_default-take.ensures.value.0 ∙ c.in_default.ensures.value.0 in
-    let no_if = allowed_not_taken kind.If c.args.depth c.take-2.new.self c.in_ok-line.field-0 c.take_allowed.new.self c.in_ok-line.ensures.value
+    let no_if = within_not_taken kind.If c.args.depth c.take-2.new.self c.in_ok-line.field-0 c.take_within.new.self c.in_ok-line.ensures.value
     c.in_default-2.is in
-    let no_for = allowed_not_taken kind.For c.args.depth c.take_allowed.new.self c.in_ok-line-2.field-0 c.take_allowed-2.new.self c.in_ok-line-2.ensures.value
+    let no_for = within_not_taken kind.For c.args.depth c.take_within.new.self c.in_ok-line-2.field-0 c.take_within-2.new.self c.in_ok-line-2.ensures.value
     c.in_default-3.is in
-    let no_while = allowed_not_taken kind.While c.args.depth c.take_allowed-2.new.self c.in_ok-line-3.field-0 c.take_allowed-3.new.self
+    let no_while = within_not_taken kind.While c.args.depth c.take_within-2.new.self c.in_ok-line-3.field-0 c.take_within-3.new.self
     c.in_ok-line-3.ensures.value c.in_default-4.is in
     let unread_4 = no_while.0 ∙ no_for.0 ∙ no_if.0 ∙ unread in
     let name = c.in-Some-5.name in
-    let stands = rw unread_4 at (word_taken c.take_allowed-3.new.self c.in_ok-name.field-0 c.take_name.new.self name c.in_ok-name.ensures.value
+    let stands = rw unread_4 at (identifier_taken c.take_within-3.new.self c.in_ok-name.field-0 c.take_name.new.self name c.in_ok-name.ensures.value
     c.in-Some-5.is) in
     let behind = c.take_name.new.self in
-    let now = c.named.new.reader in
-    let failed = err_from_is_err_and c.from_residual-in_err-named-in-Some-5.result c.from_residual-in_err-named-in-Some-5.ensures.1 in
+    let now = c.assignment_or_call.new.reader in
+    let failed = err_from_is_err_and c.from_residual-in_err-assignment_or_call-in-Some-5.result c.from_residual-in_err-assignment_or_call-in-Some-5.ensures.1 in
     rw (failed.1, failed.2) (
-    passes_next (NamedBehind 200 c.args.depth name) Anything behind now (ReadsStatement 200 c.args.depth) BeginsNoStatement old now
-    c.in_err-named-in-Some-5.field-0.0 (c.in_err-named-in-Some-5.ensures.value c.args.depth)
-    (begun_none (ReadsStatement 200 c.args.depth) Anything (word name) old behind stands) (name_begins stands)
+    passes_next (AfterName 200 c.args.depth name) Anything behind now (ReadsStatement 200 c.args.depth) BeginsNoStatement old now
+    c.in_err-assignment_or_call-in-Some-5.field-0.0 (c.in_err-assignment_or_call-in-Some-5.ensures.value c.args.depth)
+    (begun_none (ReadsStatement 200 c.args.depth) Anything (identifier name) old behind stands) (name_begins stands)
     )
 
-pub statement-returns-in_ok-named-in-Some-5-clause-value : goal.statement-returns-in_ok-named-in-Some-5-clause-value
-statement-returns-in_ok-named-in-Some-5-clause-value t c =
+pub statement-returns-in_ok-assignment_or_call-in-Some-5-clause-value : goal.statement-returns-in_ok-assignment_or_call-in-Some-5-clause-value
+statement-returns-in_ok-assignment_or_call-in-Some-5-clause-value t c =
     let old = c.args.reader.now in
     let unread = c.in_default-take.ensures.value.0 ∙ c.in_default.ensures.value.0 in
-    let no_if = allowed_not_taken kind.If c.args.depth c.take-2.new.self c.in_ok-line.field-0 c.take_allowed.new.self c.in_ok-line.ensures.value
+    let no_if = within_not_taken kind.If c.args.depth c.take-2.new.self c.in_ok-line.field-0 c.take_within.new.self c.in_ok-line.ensures.value
     c.in_default-2.is in
-    let no_for = allowed_not_taken kind.For c.args.depth c.take_allowed.new.self c.in_ok-line-2.field-0 c.take_allowed-2.new.self c.in_ok-line-2.ensures.value
+    let no_for = within_not_taken kind.For c.args.depth c.take_within.new.self c.in_ok-line-2.field-0 c.take_within-2.new.self c.in_ok-line-2.ensures.value
     c.in_default-3.is in
-    let no_while = allowed_not_taken kind.While c.args.depth c.take_allowed-2.new.self c.in_ok-line-3.field-0 c.take_allowed-3.new.self
+    let no_while = within_not_taken kind.While c.args.depth c.take_within-2.new.self c.in_ok-line-3.field-0 c.take_within-3.new.self
     c.in_ok-line-3.ensures.value c.in_default-4.is in
     let unread_4 = no_while.0 ∙ no_for.0 ∙ no_if.0 ∙ unread in
     let name = c.in-Some-5.name in
-    let stands = rw unread_4 at (word_taken c.take_allowed-3.new.self c.in_ok-name.field-0 c.take_name.new.self name c.in_ok-name.ensures.value
+    let stands = rw unread_4 at (identifier_taken c.take_within-3.new.self c.in_ok-name.field-0 c.take_name.new.self name c.in_ok-name.ensures.value
     c.in-Some-5.is) in
-    begun_front (ReadsStatement 200 c.args.depth) Anything (word name) old c.take_name.new.self stands c.named.new.reader c.in_ok-named-in-Some-5.field-0
-    (c.in_ok-named-in-Some-5.ensures.value c.args.depth)
+    begun_prefix (ReadsStatement 200 c.args.depth) Anything (identifier name) old c.take_name.new.self stands c.assignment_or_call.new.reader c.in_ok-assignment_or_call-in-Some-5.field-0
+    (c.in_ok-assignment_or_call-in-Some-5.ensures.value c.args.depth)
 
 -- ---- the loop
 pub statements-returns-in_err-next-clause-value : goal.statements-returns-in_err-next-clause-value
@@ -363,7 +363,7 @@ statements-returns-clause-value t c =
     c.in_ok-next.ensures.value c.in_default.is in
     rw told.0 (listing_ends 200 c.args.depth c.args.reader.now c.loop-found.reader c.loop-found.found c.loop-found.invariant told.1)
 
--- ---- fewer symbols are left
+-- ---- fewer terminals are left
 pub body-returns-in_err-found-clause-shorter : goal.body-returns-in_err-found-clause-shorter
 body-returns-in_err-found-clause-shorter t c = grind (arith, common_steps)
 
@@ -382,47 +382,47 @@ branches-returns-in_err-second-clause-shorter t c = grind (arith, common_steps)
 pub branches-returns-clause-shorter : goal.branches-returns-clause-shorter
 branches-returns-clause-shorter t c = grind (arith, common_steps)
 
-pub choice-returns-in_err-condition-clause-shorter : goal.choice-returns-in_err-condition-clause-shorter
-choice-returns-in_err-condition-clause-shorter t c = grind (arith, common_steps)
+pub if_statement-returns-in_err-condition-clause-shorter : goal.if_statement-returns-in_err-condition-clause-shorter
+if_statement-returns-in_err-condition-clause-shorter t c = grind (arith, common_steps)
 
-pub choice-returns-in_err-first-clause-shorter : goal.choice-returns-in_err-first-clause-shorter
-choice-returns-in_err-first-clause-shorter t c = grind (arith, common_steps)
+pub if_statement-returns-in_err-first-clause-shorter : goal.if_statement-returns-in_err-first-clause-shorter
+if_statement-returns-in_err-first-clause-shorter t c = grind (arith, common_steps)
 
-pub choice-returns-clause-shorter : goal.choice-returns-clause-shorter
-choice-returns-clause-shorter t c = grind (arith, common_steps)
+pub if_statement-returns-clause-shorter : goal.if_statement-returns-clause-shorter
+if_statement-returns-clause-shorter t c = grind (arith, common_steps)
 
-pub count-returns-in_err-name-clause-shorter : goal.count-returns-in_err-name-clause-shorter
-count-returns-in_err-name-clause-shorter t c = grind (arith, common_steps)
+pub for_statement-returns-in_err-name-clause-shorter : goal.for_statement-returns-in_err-name-clause-shorter
+for_statement-returns-in_err-name-clause-shorter t c = grind (arith, common_steps)
 
-pub count-returns-in_err-first-clause-shorter : goal.count-returns-in_err-first-clause-shorter
-count-returns-in_err-first-clause-shorter t c = grind (arith, common_steps)
+pub for_statement-returns-in_err-first-clause-shorter : goal.for_statement-returns-in_err-first-clause-shorter
+for_statement-returns-in_err-first-clause-shorter t c = grind (arith, common_steps)
 
-pub count-returns-in_err-body-clause-shorter : goal.count-returns-in_err-body-clause-shorter
-count-returns-in_err-body-clause-shorter t c = grind (arith, common_steps)
+pub for_statement-returns-in_err-body-clause-shorter : goal.for_statement-returns-in_err-body-clause-shorter
+for_statement-returns-in_err-body-clause-shorter t c = grind (arith, common_steps)
 
-pub count-returns-clause-shorter : goal.count-returns-clause-shorter
-count-returns-clause-shorter t c = grind (arith, common_steps)
+pub for_statement-returns-clause-shorter : goal.for_statement-returns-clause-shorter
+for_statement-returns-clause-shorter t c = grind (arith, common_steps)
 
-pub otherwise-returns-in_err-expect-clause-shorter : goal.otherwise-returns-in_err-expect-clause-shorter
-otherwise-returns-in_err-expect-clause-shorter t c = grind (arith, common_steps)
+pub else_part-returns-in_err-expect-clause-shorter : goal.else_part-returns-in_err-expect-clause-shorter
+else_part-returns-in_err-expect-clause-shorter t c = grind (arith, common_steps)
 
-pub otherwise-returns-then-is_none-clause-shorter : goal.otherwise-returns-then-is_none-clause-shorter
-otherwise-returns-then-is_none-clause-shorter t c = grind (arith, common_steps)
+pub else_part-returns-then-is_none-clause-shorter : goal.else_part-returns-then-is_none-clause-shorter
+else_part-returns-then-is_none-clause-shorter t c = grind (arith, common_steps)
 
-pub otherwise-returns-clause-shorter : goal.otherwise-returns-clause-shorter
-otherwise-returns-clause-shorter t c = grind (arith, common_steps)
+pub else_part-returns-clause-shorter : goal.else_part-returns-clause-shorter
+else_part-returns-clause-shorter t c = grind (arith, common_steps)
 
-pub repetition-returns-in_err-condition-clause-shorter : goal.repetition-returns-in_err-condition-clause-shorter
-repetition-returns-in_err-condition-clause-shorter t c = grind (arith, common_steps)
+pub while_statement-returns-in_err-condition-clause-shorter : goal.while_statement-returns-in_err-condition-clause-shorter
+while_statement-returns-in_err-condition-clause-shorter t c = grind (arith, common_steps)
 
-pub repetition-returns-in_err-limit-clause-shorter : goal.repetition-returns-in_err-limit-clause-shorter
-repetition-returns-in_err-limit-clause-shorter t c = grind (arith, common_steps)
+pub while_statement-returns-in_err-limit-clause-shorter : goal.while_statement-returns-in_err-limit-clause-shorter
+while_statement-returns-in_err-limit-clause-shorter t c = grind (arith, common_steps)
 
-pub repetition-returns-in_err-body-clause-shorter : goal.repetition-returns-in_err-body-clause-shorter
-repetition-returns-in_err-body-clause-shorter t c = grind (arith, common_steps)
+pub while_statement-returns-in_err-body-clause-shorter : goal.while_statement-returns-in_err-body-clause-shorter
+while_statement-returns-in_err-body-clause-shorter t c = grind (arith, common_steps)
 
-pub repetition-returns-clause-shorter : goal.repetition-returns-clause-shorter
-repetition-returns-clause-shorter t c = grind (arith, common_steps)
+pub while_statement-returns-clause-shorter : goal.while_statement-returns-clause-shorter
+while_statement-returns-clause-shorter t c = grind (arith, common_steps)
 
 pub statement-returns-in_err-print-clause-shorter : goal.statement-returns-in_err-print-clause-shorter
 statement-returns-in_err-print-clause-shorter t c = grind (arith, common_steps)
@@ -439,8 +439,8 @@ statement-returns-in-Some-take-clause-shorter t c = grind (arith, common_steps)
 pub statement-returns-in_err-line-clause-shorter : goal.statement-returns-in_err-line-clause-shorter
 statement-returns-in_err-line-clause-shorter t c = grind (arith, common_steps)
 
-pub statement-returns-in_err-choice-clause-shorter : goal.statement-returns-in_err-choice-clause-shorter
-statement-returns-in_err-choice-clause-shorter t c = grind (arith, common_steps)
+pub statement-returns-in_err-if_statement-clause-shorter : goal.statement-returns-in_err-if_statement-clause-shorter
+statement-returns-in_err-if_statement-clause-shorter t c = grind (arith, common_steps)
 
 pub statement-returns-in-Some-2-clause-shorter : goal.statement-returns-in-Some-2-clause-shorter
 statement-returns-in-Some-2-clause-shorter t c = grind (arith, common_steps)
@@ -448,8 +448,8 @@ statement-returns-in-Some-2-clause-shorter t c = grind (arith, common_steps)
 pub statement-returns-in_err-line-2-clause-shorter : goal.statement-returns-in_err-line-2-clause-shorter
 statement-returns-in_err-line-2-clause-shorter t c = grind (arith, common_steps)
 
-pub statement-returns-in_err-count-clause-shorter : goal.statement-returns-in_err-count-clause-shorter
-statement-returns-in_err-count-clause-shorter t c = grind (arith, common_steps)
+pub statement-returns-in_err-for_statement-clause-shorter : goal.statement-returns-in_err-for_statement-clause-shorter
+statement-returns-in_err-for_statement-clause-shorter t c = grind (arith, common_steps)
 
 pub statement-returns-in-Some-3-clause-shorter : goal.statement-returns-in-Some-3-clause-shorter
 statement-returns-in-Some-3-clause-shorter t c = grind (arith, common_steps)
@@ -457,8 +457,8 @@ statement-returns-in-Some-3-clause-shorter t c = grind (arith, common_steps)
 pub statement-returns-in_err-line-3-clause-shorter : goal.statement-returns-in_err-line-3-clause-shorter
 statement-returns-in_err-line-3-clause-shorter t c = grind (arith, common_steps)
 
-pub statement-returns-in_err-repetition-clause-shorter : goal.statement-returns-in_err-repetition-clause-shorter
-statement-returns-in_err-repetition-clause-shorter t c = grind (arith, common_steps)
+pub statement-returns-in_err-while_statement-clause-shorter : goal.statement-returns-in_err-while_statement-clause-shorter
+statement-returns-in_err-while_statement-clause-shorter t c = grind (arith, common_steps)
 
 pub statement-returns-in-Some-4-clause-shorter : goal.statement-returns-in-Some-4-clause-shorter
 statement-returns-in-Some-4-clause-shorter t c = grind (arith, common_steps)
@@ -466,11 +466,11 @@ statement-returns-in-Some-4-clause-shorter t c = grind (arith, common_steps)
 pub statement-returns-in_err-name-clause-shorter : goal.statement-returns-in_err-name-clause-shorter
 statement-returns-in_err-name-clause-shorter t c = grind (arith, common_steps)
 
-pub statement-returns-in_err-named-in-Some-5-clause-shorter : goal.statement-returns-in_err-named-in-Some-5-clause-shorter
-statement-returns-in_err-named-in-Some-5-clause-shorter t c = grind (arith, common_steps)
+pub statement-returns-in_err-assignment_or_call-in-Some-5-clause-shorter : goal.statement-returns-in_err-assignment_or_call-in-Some-5-clause-shorter
+statement-returns-in_err-assignment_or_call-in-Some-5-clause-shorter t c = grind (arith, common_steps)
 
-pub statement-returns-in_ok-named-in-Some-5-clause-shorter : goal.statement-returns-in_ok-named-in-Some-5-clause-shorter
-statement-returns-in_ok-named-in-Some-5-clause-shorter t c = grind (arith, common_steps)
+pub statement-returns-in_ok-assignment_or_call-in-Some-5-clause-shorter : goal.statement-returns-in_ok-assignment_or_call-in-Some-5-clause-shorter
+statement-returns-in_ok-assignment_or_call-in-Some-5-clause-shorter t c = grind (arith, common_steps)
 
 pub statement-returns-in-None-clause-shorter : goal.statement-returns-in-None-clause-shorter
 statement-returns-in-None-clause-shorter t c = grind (arith, common_steps)

@@ -1,17 +1,17 @@
 use Rattle.std.proofs.Common.{◌+◌, ◌*◌, length}
 use Rattle.source_parser.specs.Grammar.{ReadsStatements}
-use Rattle.source_parser.specs.Fronts.{BeginsNoStatement}
-use Rattle.source_parser.proofs.Listing.{Listing}
+use Rattle.source_parser.specs.Prefixes.{BeginsNoStatement}
+use Rattle.source_parser.proofs.ListInvariants.{Listing}
 use Rattle.source_parser.proofs.statement.+statement.Given as goal
 
-abbrev pub decreases-choice : goal.decreases-choice
-decreases-choice l = length l.reader.now * 4
+abbrev pub decreases-if_statement : goal.decreases-if_statement
+decreases-if_statement l = length l.reader.now * 4
 
-abbrev pub decreases-count : goal.decreases-count
-decreases-count l = length l.reader.now * 4
+abbrev pub decreases-for_statement : goal.decreases-for_statement
+decreases-for_statement l = length l.reader.now * 4
 
-abbrev pub decreases-repetition : goal.decreases-repetition
-decreases-repetition l = length l.reader.now * 4
+abbrev pub decreases-while_statement : goal.decreases-while_statement
+decreases-while_statement l = length l.reader.now * 4
 
 abbrev pub decreases-statement : goal.decreases-statement
 decreases-statement l = length l.reader.now * 4 + 1
@@ -19,8 +19,8 @@ decreases-statement l = length l.reader.now * 4 + 1
 abbrev pub decreases-statements : goal.decreases-statements
 decreases-statements l = length l.reader.now * 4 + 2
 
-abbrev pub decreases-otherwise : goal.decreases-otherwise
-decreases-otherwise l = length l.reader.now * 4
+abbrev pub decreases-else_part : goal.decreases-else_part
+decreases-else_part l = length l.reader.now * 4
 
 abbrev pub decreases-branches : goal.decreases-branches
 decreases-branches l = length l.reader.now * 4 + 3

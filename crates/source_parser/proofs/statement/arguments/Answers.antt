@@ -3,10 +3,10 @@ use Rattle.std.proofs.lemmas.Result.{err_from_is_err_and}
 use Rattle.source_lexer.specs.declared.token.TokenKind.TheVariants as kind
 use Rattle.source_tree.specs.declared.expression.Expr.{Expr}
 use Rattle.source_parser.specs.Grammar.{sum, ReadsListed, ReadsOutermost}
-use Rattle.source_parser.specs.Fronts.{Anything, Ends}
+use Rattle.source_parser.specs.Prefixes.{Anything, Ends}
 use Rattle.source_parser.proofs.Sequences.{Ended, passes, taken, not_taken}
 use Rattle.source_parser.proofs.StatementParts.{no_expr_closes}
-use Rattle.source_parser.proofs.Listed.{listed_empty, listed_none, gathering_begins, gathering_goes_on, gathering_ends, gathering_fails}
+use Rattle.source_parser.proofs.ListLemmas.{listed_empty, listed_none, gathering_begins, gathering_goes_on, gathering_ends, gathering_fails}
 use Rattle.source_parser.proofs.statement.arguments.Goals as goal
 
 closes : Ended (Ends sum) kind.RightParen

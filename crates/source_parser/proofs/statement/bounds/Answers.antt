@@ -1,8 +1,8 @@
 use Rattle.std.proofs.lemmas.Result.{err_from_is_err_and}
 use Rattle.source_parser.specs.Grammar.{sum, ReadsOutermost}
-use Rattle.source_parser.specs.Fronts.{Anything, Ends, ReadsBounds}
+use Rattle.source_parser.specs.Prefixes.{Anything, Ends, ReadsBounds}
 use Rattle.source_parser.proofs.Sequences.{passes, fails}
-use Rattle.source_parser.proofs.Statements.{bounds_no_first, bounds_no_to, bounds_no_last, bounds_no_do, bounds_front}
+use Rattle.source_parser.proofs.Statements.{bounds_no_first, bounds_no_to, bounds_no_last, bounds_no_do, bounds_prefix}
 use Rattle.source_parser.proofs.statement.bounds.Goals as goal
 
 pub returns-in_err-first-clause-value : goal.returns-in_err-first-clause-value
@@ -49,7 +49,7 @@ returns-in_err-expect-2-clause-value c =
 pub returns-clause-value : goal.returns-clause-value
 returns-clause-value c =
     let old = c.args.reader.now in
-    bounds_front 200 old c.expr.new.reader c.in_ok-first.first c.in_ok-first.ensures.value
+    bounds_prefix 200 old c.expr.new.reader c.in_ok-first.first c.in_ok-first.ensures.value
     c.expect.new.self c.in_ok-expect.field-0 c.in_ok-expect.ensures.value
     c.expr-2.new.reader c.in_ok-last.last c.in_ok-last.ensures.value
     c.expect-2.new.self c.in_ok-expect-2.field-0 c.in_ok-expect-2.ensures.value

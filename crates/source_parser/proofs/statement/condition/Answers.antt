@@ -1,8 +1,8 @@
 use Rattle.std.proofs.lemmas.Result.{err_from_is_err_and}
 use Rattle.source_parser.specs.Grammar.{sum, ReadsCondition, ReadsOutermost}
-use Rattle.source_parser.specs.Fronts.{Ends}
+use Rattle.source_parser.specs.Prefixes.{Ends}
 use Rattle.source_parser.proofs.Sequences.{passes, fails}
-use Rattle.source_parser.proofs.StatementParts.{sign_front, sign_none, condition_front, condition_none, condition_no_sign, condition_no_right}
+use Rattle.source_parser.proofs.StatementParts.{sign_prefix, sign_none, condition_prefix, condition_none, condition_no_sign, condition_no_right}
 use Rattle.source_parser.proofs.statement.condition.Goals as goal
 
 pub returns-in_err-left-clause-value : goal.returns-in_err-left-clause-value
@@ -37,7 +37,7 @@ returns-in_err-right-clause-value c =
     let failed = err_from_is_err_and c.from_residual-in_err-right.result c.from_residual-in_err-right.ensures.1 in
     rw (failed.1, failed.2) (
     passes (ReadsOutermost 200) (Ends sum) behind new (ReadsCondition 200) (Ends sum) old new c.in_err-right.field-0.0 c.in_err-right.ensures.value
-    (condition_no_right 200 old now behind c.in_ok-left.left test c.in_ok-left.ensures.value (sign_front now behind test c.in_ok-comparison.ensures.value))
+    (condition_no_right 200 old now behind c.in_ok-left.left test c.in_ok-left.ensures.value (sign_prefix now behind test c.in_ok-comparison.ensures.value))
     )
 
 pub returns-clause-value : goal.returns-clause-value
@@ -47,7 +47,7 @@ returns-clause-value c =
     let behind = c.comparison.new.reader in
     let test = c.in_ok-comparison.comparison in
     rw c.line-line.ensures (
-    condition_front 200 old now behind c.expr-2.new.reader c.in_ok-left.left c.in_ok-right.right test c.in_ok-left.ensures.value
-    (sign_front now behind test c.in_ok-comparison.ensures.value)
+    condition_prefix 200 old now behind c.expr-2.new.reader c.in_ok-left.left c.in_ok-right.right test c.in_ok-left.ensures.value
+    (sign_prefix now behind test c.in_ok-comparison.ensures.value)
     c.in_ok-right.ensures.value
     )

@@ -1,7 +1,7 @@
 use Rattle.std.proofs.lemmas.Result.{err_from_is_err_and}
-use Rattle.source_parser.specs.Fronts.{Anything}
+use Rattle.source_parser.specs.Prefixes.{Anything}
 use Rattle.source_parser.proofs.Sequences.{passes}
-use Rattle.source_parser.proofs.StatementParts.{PrintBehind, SemicolonExpr, print_front, print_none}
+use Rattle.source_parser.proofs.StatementParts.{AfterPrint, SemicolonExpr, print_prefix, print_none}
 use Rattle.source_parser.proofs.statement.print.Goals as goal
 
 pub returns-in_err-value-clause-value : goal.returns-in_err-value-clause-value
@@ -10,10 +10,10 @@ returns-in_err-value-clause-value c = λ depth.
     let now = c.value.new.reader in
     let failed = err_from_is_err_and c.from_residual.result c.from_residual.ensures.1 in
     rw (failed.1, failed.2) (
-    passes (SemicolonExpr 200) Anything old now (PrintBehind 200 depth c.args.line) Anything old now c.in_err-value.field-0.0
+    passes (SemicolonExpr 200) Anything old now (AfterPrint 200 depth c.args.line) Anything old now c.in_err-value.field-0.0
     c.in_err-value.ensures.value (print_none 200 depth c.args.line old)
     )
 
 pub returns-clause-value : goal.returns-clause-value
 returns-clause-value c = λ depth.
-    print_front 200 depth c.args.line c.args.reader.now c.value.new.reader c.in_ok-value.value c.in_ok-value.ensures.value
+    print_prefix 200 depth c.args.line c.args.reader.now c.value.new.reader c.in_ok-value.value c.in_ok-value.ensures.value

@@ -1,8 +1,8 @@
 use Rattle.std.proofs.lemmas.Result.{err_from_is_err_and}
 use Rattle.source_lexer.specs.declared.token.TokenKind.TheVariants as kind
 use Rattle.source_parser.specs.Grammar.{sum, ReadsOutermost}
-use Rattle.source_parser.specs.Fronts.{Anything, Ends}
-use Rattle.source_parser.proofs.Sequences.{passes, fails, closed_front, closed_none, closed_missing}
+use Rattle.source_parser.specs.Prefixes.{Anything, Ends}
+use Rattle.source_parser.proofs.Sequences.{passes, fails, closed_prefix, closed_none, closed_missing}
 use Rattle.source_parser.proofs.StatementParts.{SemicolonExpr, semicolon_ended}
 use Rattle.source_parser.proofs.statement.value.Goals as goal
 
@@ -29,5 +29,5 @@ returns-in_err-expect-clause-value c =
 pub returns-clause-value : goal.returns-clause-value
 returns-clause-value c =
     let old = c.args.reader.now in
-    closed_front (ReadsOutermost 200) (Ends sum) kind.Semicolon semicolon_ended Anything old c.expr.new.reader c.expect.new.self c.in_ok-value.value
+    closed_prefix (ReadsOutermost 200) (Ends sum) kind.Semicolon semicolon_ended Anything old c.expr.new.reader c.expect.new.self c.in_ok-value.value
     c.in_ok-expect.field-0 c.in_ok-value.ensures.value c.in_ok-expect.ensures.value

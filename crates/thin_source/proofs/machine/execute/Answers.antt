@@ -55,7 +55,7 @@ integer_of-requires g c =
 pub returns-in-Print-clause-put : goal.returns-in-Print-clause-put
 returns-in-Print-clause-put g c = λ state held.
     let ds = map declaration_view c.args.declarations.now in
-    let took = g.K.Sink.took in
+    let puts = g.K.Sink.puts in
     let told = g.K.Sink.state in
     let old = c.args.sink.now in
     let new = c.put.new.self in
@@ -67,6 +67,6 @@ returns-in-Print-clause-put g c = λ state held.
     let fits : FitsSigned w128 c.integer_of.result = search rules in
     let same = to_z-of_z w128 c.integer_of.result fits ∙ c.integer_of.ensures value in_range vector in
     let piece = c.as_slice.ensures.value ∙ c.line_of.ensures ∙ ap (λ z. line (signed_decimal z)) same in
-    let one = PutsPieces-one took told old c.as_slice.result.now c.put.result new c.put.ensures.leaves c.put.ensures.late c.put.ensures.took in
-    subst (λ s. PutsPieces took told old (print_lines (prints_from state (s ∷ []))) c.put.result new) (sym (ap statement_view c.in-Print.is))
-    (subst (λ bytes. PutsPieces took told old (bytes ∷ []) c.put.result new) piece one)
+    let one = PutsPieces-one puts told old c.as_slice.result.now c.put.result new c.put.ensures.leaves c.put.ensures.late c.put.ensures.puts in
+    subst (λ s. PutsPieces puts told old (print_lines (prints_from state (s ∷ []))) c.put.result new) (sym (ap statement_view c.in-Print.is))
+    (subst (λ bytes. PutsPieces puts told old (bytes ∷ []) c.put.result new) piece one)

@@ -1,6 +1,6 @@
 use Rattle.std.proofs.Common.{◌≡◌, ◌+◌, [], ◌++◌, map, take, drop, length, subst, ◌∙◌}
 use Rattle.std.proofs.Math.Seq.{take-append_seam}
-use Rattle.outside.specs.Runs.{WroteAll-none, WroteAll-append}
+use Rattle.outside.proofs.Runs.{WroteAll-none, WroteAll-append}
 use Rattle.thin_source.specs.ThinView.{declaration_view, statement_view, program_view}
 use Rattle.thin_source.specs.ThinMeaning.{start_of}
 use Rattle.thin_source.specs.ThinStates.{Holds, state_after}
@@ -24,7 +24,7 @@ returns-in-Failed g c =
     let before = c.loop-statement.invariant in
     let reached = subst (λ l. IsReached program l c.loop-statement.variables.items before.1 before.0) step before.2 in
     let held : Holds (map declaration_view c.deref.result.now) c.deref_mut.result.now before.0 = rw (c.deref.ensures.value, c.deref_mut.ensures.value) reached.holds in
-    PutsPieces-broke g.K.Sink.took g.K.Sink.state c.args.sink.now c.loop-statement.sink c.execute.new.sink program (statement_view statement) left c.loop-statement.variables.items before.1 before.0 reached before.3 (c.in-Failed.ensures.put before.0 held)
+    PutsPieces-broke g.K.Sink.puts g.K.Sink.state c.args.sink.now c.loop-statement.sink c.execute.new.sink program (statement_view statement) left c.loop-statement.variables.items before.1 before.0 reached before.3 (c.in-Failed.ensures.put before.0 held)
 
 pub loop-statement-preserved : goal.loop-statement-preserved
 loop-statement-preserved g c =

@@ -9,4 +9,4 @@ use Rattle.thin_source.proofs.machine.run.Given as goal
 abbrev pub invariant-loop-statement : goal.invariant-loop-statement
 invariant-loop-statement g l =
     let left = map statement_view (drop l.statement-index l.program.statements.items) in
-    (state : State) × (pieces : List (List ℕ)) × IsReached (program_view l.program) left l.variables.items pieces state × WroteAll g.K.Sink.took g.K.Sink.state l.initial.sink pieces l.sink
+    (state : State) × (pieces : List (List ℕ)) × IsReached (program_view l.program) left l.variables.items pieces state × WroteAll g.K.Sink.puts g.K.Sink.state l.initial.sink pieces l.sink

@@ -3,7 +3,7 @@ use Rattle.std.specs.Map.{lookup}
 use Rattle.std.specs.Option.{option_copied}
 use Rattle.std.specs.Result.{OkIff, is_ok, result_ok}
 use Rattle.fault_book.specs.Book.{fault_at}
-use Rattle.fault_book.specs.Kept.{kept_book, AreChannels}
+use Rattle.fault_book.specs.Invariant.{book_of_entries, AreChannels}
 use Rattle.fault_book.proofs.BookLemmas.{fault_at-from_entries, fault_at-past}
 use Rattle.fault_book.proofs.EntryLemmas.{same_answer}
 use Rattle.fault_book.proofs.faults.Faults.answer.Goals as goal
@@ -22,7 +22,7 @@ pub returns-in_err-entries : goal.returns-in_err-entries
 returns-in_err-entries c =
     let entries = sym c.as_ref.ensures.value ∙ ap option_copied c.in_err-entries.was in
     c.from_residual.ensures ∙ sym (fault_at-from_entries [] c.args.channel c.args.number)
-    ∙ ap (λ book. fault_at book c.args.channel c.args.number) (sym (ap kept_book entries) ∙ c.self.view_is)
+    ∙ ap (λ book. fault_at book c.args.channel c.args.number) (sym (ap book_of_entries entries) ∙ c.self.view_is)
 
 pub returns-in_err-channel : goal.returns-in_err-channel
 returns-in_err-channel c =
@@ -30,7 +30,7 @@ returns-in_err-channel c =
     let entries : c.self.inside.entries ≡ Some c.in_ok-entries.entries.now = sym c.as_ref.ensures.value ∙ ap option_copied c.in_ok-entries.was in
     c.from_residual-in_err-channel.ensures
     ∙ sym (fault_at-past c.in_ok-entries.entries.now.entries c.args.channel c.args.number (subst AreChannels entries c.self.invariant) (omega arith))
-    ∙ ap (λ book. fault_at book c.args.channel c.args.number) (sym (ap kept_book entries) ∙ c.self.view_is)
+    ∙ ap (λ book. fault_at book c.args.channel c.args.number) (sym (ap book_of_entries entries) ∙ c.self.view_is)
 
 pub returns : goal.returns
 returns c =
@@ -39,4 +39,4 @@ returns c =
     c.copied.ensures ∙ c.get.ensures.value
     ∙ ap (λ (n : ℕ). lookup (same_answer (n, c.args.number)) c.in_ok-entries.entries.now.entries) channel
     ∙ sym (fault_at-from_entries c.in_ok-entries.entries.now.entries c.args.channel c.args.number)
-    ∙ ap (λ book. fault_at book c.args.channel c.args.number) (sym (ap kept_book entries) ∙ c.self.view_is)
+    ∙ ap (λ book. fault_at book c.args.channel c.args.number) (sym (ap book_of_entries entries) ∙ c.self.view_is)

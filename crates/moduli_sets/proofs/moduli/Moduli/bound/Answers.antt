@@ -7,6 +7,6 @@ use Rattle.moduli_sets.proofs.moduli.Moduli.bound.Goals as goal
 
 pub returns : goal.returns
 returns c =
-    let kept = c.args.self.now in
-    let fits : FitsSigned w128 kept.bound = search rules in
-    to_z-of_z w128 kept.bound fits ∙ bound-of kept
+    let value = c.args.self.now in
+    let fits : FitsSigned w128 value.bound = search rules in
+    to_z-of_z w128 value.bound fits ∙ bound-of value

@@ -5,8 +5,8 @@ use Rattle.moduli_sets.proofs.moduli.Moduli.tells_apart.Goals as goal
 
 pub returns : goal.returns
 returns c =
-    let kept = c.args.self.now in
+    let value = c.args.self.now in
     record {
-      information = λ x y. same_from_information (set_of kept) x y (IsModuliSet-of kept);
-      all = λ x y. same_from_vectors (set_of kept) x y (IsModuliSet-of kept);
+      information = λ x y. same_from_information (set_of value) x y (IsModuliSet-of value);
+      all = λ x y. same_from_vectors (set_of value) x y (IsModuliSet-of value);
     }

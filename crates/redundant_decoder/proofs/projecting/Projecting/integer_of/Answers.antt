@@ -3,7 +3,7 @@ use Rattle.std.specs.Int.{w128}
 use Rattle.std.proofs.lemmas.Int.{ints}
 use Rattle.moduli_sets.specs.Moduli.{set_of}
 use Rattle.moduli_sets.specs.Set.{range_bound}
-use Rattle.mixed_radix.specs.Chosen.{chosen}
+use Rattle.mixed_radix.specs.Chosen.{entries_at}
 use Rattle.redundant_decoder.specs.Projection.{IsIntegerOf}
 use Rattle.redundant_decoder.proofs.ProjectionLemmas.{IsNumberOf-value, IsIntegerOf-number, IsIntegerOf-less_product, IsIntegerOf-none}
 use Rattle.redundant_decoder.proofs.projecting.Projecting.integer_of.Goals as goal
@@ -11,7 +11,7 @@ use Rattle.redundant_decoder.proofs.projecting.Projecting.integer_of.Goals as go
 pub overflow_cast-y : goal.overflow_cast-y
 overflow_cast-y c =
     let which = c.args.which.now in
-    let number = IsNumberOf-value (chosen which (set_of c.args.self.now.set).moduli) (chosen which c.args.v.now) c.digits_of.result c.value_of-y.result c.digits_of.ensures.number c.value_of-y.ensures in
+    let number = IsNumberOf-value (entries_at which (set_of c.args.self.now.set).moduli) (entries_at which c.args.v.now) c.digits_of.result c.value_of-y.result c.digits_of.ensures.number c.value_of-y.ensures in
     omega (arith, ints, number.small, c.product_of-product.ensures.value, c.product_of-product.ensures.fits)
 
 pub returns-then-y-bound-clause-found : goal.returns-then-y-bound-clause-found
@@ -19,7 +19,7 @@ returns-then-y-bound-clause-found c =
     let set = set_of c.args.self.now.set in
     let which = c.args.which.now in
     let y = c.value_of-y.result in
-    let number = IsNumberOf-value (chosen which set.moduli) (chosen which c.args.v.now) c.digits_of.result y c.digits_of.ensures.number c.value_of-y.ensures in
+    let number = IsNumberOf-value (entries_at which set.moduli) (entries_at which c.args.v.now) c.digits_of.result y c.digits_of.ensures.number c.value_of-y.ensures in
     let small : y < 2 ^ 127 = omega (arith, number.small, c.product_of-product.ensures.value, c.product_of-product.ensures.fits) in
     let natural : to_z w128 y ≡ pos y = omega (arith, ints) in
     let within : y ≤ range_bound set = omega (arith, ints, c.if-y-bound.true, c.bound-bound.ensures) in
@@ -31,7 +31,7 @@ returns-then-product-y-clause-found c =
     let which = c.args.which.now in
     let y = c.value_of-y.result in
     let p = c.product_of-product.result in
-    let number = IsNumberOf-value (chosen which set.moduli) (chosen which c.args.v.now) c.digits_of.result y c.digits_of.ensures.number c.value_of-y.ensures in
+    let number = IsNumberOf-value (entries_at which set.moduli) (entries_at which c.args.v.now) c.digits_of.result y c.digits_of.ensures.number c.value_of-y.ensures in
     let small : y < p = omega (arith, number.small, c.product_of-product.ensures.value) in
     let fits = c.product_of-product.ensures.fits in
     let less : to_z w128 (of_z w128 (to_z w128 y -ℤ to_z w128 p)) ≡ pos y -ℤ pos p = omega (arith, ints) in
@@ -44,7 +44,7 @@ returns-else-product-y-clause-none c =
     let which = c.args.which.now in
     let y = c.value_of-y.result in
     let p = c.product_of-product.result in
-    let number = IsNumberOf-value (chosen which set.moduli) (chosen which c.args.v.now) c.digits_of.result y c.digits_of.ensures.number c.value_of-y.ensures in
+    let number = IsNumberOf-value (entries_at which set.moduli) (entries_at which c.args.v.now) c.digits_of.result y c.digits_of.ensures.number c.value_of-y.ensures in
     let small : y < p = omega (arith, number.small, c.product_of-product.ensures.value) in
     let fits = c.product_of-product.ensures.fits in
     let above : range_bound set < y = omega (arith, ints, c.if-y-bound.false, c.bound-bound.ensures) in

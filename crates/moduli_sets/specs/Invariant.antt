@@ -1,4 +1,4 @@
--- The test that the numbers kept for a set pass.
+-- The test that the numbers of a value of `Moduli` pass.
 use Rattle.std.specs.Prelude.{ℕ, zero, suc, ◌+◌, ◌*◌, ◌%◌, ◌^◌, ℤ, pos, negsuc, Bool, true, false, ◌&&◌, ◌||◌, ◌==◌, nat_lt, nat_le, List, [], length, take, slice_index, slice_index_or}
 use Rattle.std.specs.List.{list_all}
 use Rattle.number_theory.specs.Coprime.{product}
@@ -9,8 +9,8 @@ abbrev pub each_below : ℕ → (ℕ → Bool) → Bool
 each_below zero test = true
 each_below (suc n) test = test n && each_below n test
 
-abbrev pub fits_16_bits : ℕ → Bool
-fits_16_bits m = nat_le 2 m && nat_le m 65535
+abbrev pub is_modulus_size : ℕ → Bool
+is_modulus_size m = nat_le 2 m && nat_le m 65535
 
 -- the rules of a set with three redundant moduli, but for the one on coprime numbers
 abbrev pub meets_rules : ModuliSet → Bool
@@ -18,7 +18,7 @@ meets_rules set =
     (length set.moduli == set.info + 3)
     && nat_le 4 (length set.moduli)
     && nat_le (length set.moduli) 12
-    && list_all fits_16_bits set.moduli
+    && list_all is_modulus_size set.moduli
     && list_all (λ r. list_all (λ m. nat_lt m r) (information set)) (redundant set)
     && nat_lt (product set.moduli) (2 ^ 127)
     && nat_le 3 (information_product set)
@@ -38,8 +38,8 @@ is_natural (pos n) m = n == m
 is_natural (negsuc n) m = false
 
 -- the first `count` of the numbers, `info` of them for information, their inverses and their bound
-unfoldable pub is_kept : List ℕ → ℕ → ℕ → List (List ℕ) → ℤ → Bool
-is_kept numbers count info inverses bound =
+unfoldable pub is_consistent : List ℕ → ℕ → ℕ → List (List ℕ) → ℤ → Bool
+is_consistent numbers count info inverses bound =
     let set : ModuliSet = record { moduli = take count numbers; info = info } in
     nat_le count (length numbers)
     && meets_rules set

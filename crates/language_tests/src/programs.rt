@@ -31,8 +31,8 @@ fn parsed(alloc: Global, text: &str) -> Result<Result<Program, ParseFault>, Fail
     Ok(parse(alloc, text, tokens.as_slice()))
 }
 
-/// What is told of a text, as the table writes it.
-fn told(alloc: Global, text: &str) -> Result<String, Fail> {
+/// What is reported of a text, as the table writes it.
+fn reported(alloc: Global, text: &str) -> Result<String, Fail> {
     Ok(match parsed(alloc, text)? {
         Ok(_) => format!(in alloc; "ok")?,
         Err(ParseFault::Stops(place)) => format!(in alloc; "stops {place}")?,
@@ -95,7 +95,7 @@ fn where_tokens_stop(rt: HostRuntime) -> Result<(), Fail> {
         match line.split_once(" | ") {
             Some((wanted, text)) => {
                 let text = spread(rt.alloc(), text)?;
-                let found = told(rt.alloc(), text.as_str())?;
+                let found = reported(rt.alloc(), text.as_str())?;
                 assert_eq!(rt; found.as_str(), wanted, "{line}");
             }
             None => assert!(rt; false, "{line}"),

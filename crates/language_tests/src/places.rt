@@ -1,7 +1,7 @@
-//! Texts, and where their tokens stop to be the front of a program, nest too deep, or are one. `tests/places.py` wrote
+//! Texts, and where their tokens stop to be a prefix of a program, nest too deep, or are one. `tests/places.py` wrote
 //! it, by a recogniser of its own. `{N TEXT}` stands for TEXT N times.
 
-/// What is told of a text, a bar, and the text.
+/// What is reported of a text, a bar, and the text.
 pub const PLACES: &str = "\
     ok | \n\
     stops 2 | var x 0..9;\n\

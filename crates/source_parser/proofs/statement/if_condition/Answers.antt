@@ -1,10 +1,10 @@
 use Rattle.std.proofs.lemmas.Result.{err_from_is_err_and}
 use Rattle.source_lexer.specs.declared.token.TokenKind.TheVariants as kind
 use Rattle.source_parser.specs.Grammar.{sum, ReadsCondition}
-use Rattle.source_parser.specs.Fronts.{Anything, Ends}
-use Rattle.source_parser.proofs.Sequences.{passes, fails, closed_front, closed_none, closed_missing}
+use Rattle.source_parser.specs.Prefixes.{Anything, Ends}
+use Rattle.source_parser.proofs.Sequences.{passes, fails, closed_prefix, closed_none, closed_missing}
 use Rattle.source_parser.proofs.Statements.{ThenCondition, then_ended}
-use Rattle.source_parser.proofs.statement.choice_condition.Goals as goal
+use Rattle.source_parser.proofs.statement.if_condition.Goals as goal
 
 pub returns-in_err-condition-clause-value : goal.returns-in_err-condition-clause-value
 returns-in_err-condition-clause-value c =
@@ -29,5 +29,5 @@ returns-in_err-expect-clause-value c =
 pub returns-clause-value : goal.returns-clause-value
 returns-clause-value c =
     let old = c.args.reader.now in
-    closed_front (ReadsCondition 200) (Ends sum) kind.Then then_ended Anything old c.condition.new.reader c.expect.new.self c.in_ok-condition.condition
+    closed_prefix (ReadsCondition 200) (Ends sum) kind.Then then_ended Anything old c.condition.new.reader c.expect.new.self c.in_ok-condition.condition
     c.in_ok-expect.field-0 c.in_ok-condition.ensures.value c.in_ok-expect.ensures.value

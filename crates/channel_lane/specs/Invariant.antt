@@ -3,7 +3,7 @@ use Rattle.std.specs.Prelude.{◌≡◌, ℕ, ◌<◌, List, length, slice_index
 use Rattle.moduli_sets.specs.Set.{ModuliSet}
 
 -- the channel is one of the set and has this modulus, and each place holds a residue
-pub record IsKept (modulus : ℕ) (set : ModuliSet) (channel : ℕ) (registers scratch words : List ℕ) : Type 0 where
+pub record IsConsistent (modulus : ℕ) (set : ModuliSet) (channel : ℕ) (registers scratch words : List ℕ) : Type 0 where
   pub channel_in : channel < length set.moduli
   pub modulus_is : slice_index set.moduli channel ≡ modulus
   pub sixteen : length registers ≡ 16

@@ -53,7 +53,7 @@ fn places_and_lines(rt: HostRuntime) -> Result<(), Fail> {
 }
 
 #[test]
-fn the_first_fault_is_told(rt: HostRuntime) {
+fn the_first_fault_is_reported(rt: HostRuntime) {
     assert_eq!(rt; fault(rt.alloc(), b"0...5"), Some(LexFault::BadByte(1)));
     assert_eq!(rt; fault(rt.alloc(), b"\n\x0c"), Some(LexFault::BadByte(2)));
     assert_eq!(rt; fault(rt.alloc(), b"a\xff\n."), Some(LexFault::BadByte(1)));

@@ -1,11 +1,11 @@
 use Rattle.std.proofs.Common.{◌≡◌, subst, arith}
 use Rattle.number_theory.specs.Residue.{residue}
-use Rattle.channel_lane.specs.Lane.{LaneState, modulus_of, unscaled}
+use Rattle.channel_lane.specs.Lane.{LaneState, modulus_of, unscaled_value}
 use Rattle.channel_lane.proofs.ResidueSteps.{unscale_same}
-use Rattle.channel_lane.proofs.lane.Lane.unscaled.Goals as goal
+use Rattle.channel_lane.proofs.lane.Lane.unscaled_residue.Goals as goal
 
 pub returns-else-s-self-clause-value : goal.returns-else-s-self-clause-value
 returns-else-s-self-clause-value g c =
-    let is_value = λ (lane : LaneState). c.unscale.result ≡ residue (unscaled lane c.args.x c.args.s c.args.take c.args.give) (modulus_of lane) in
+    let is_value = λ (lane : LaneState). c.unscale.result ≡ residue (unscaled_value lane c.args.x c.args.s c.args.take c.args.give) (modulus_of lane) in
     subst is_value c.self.view_is
     (unscale_same _ _ _ _ _ _ _ _ _ _ _ c.unscale.ensures c.inverse.ensures.value c.modulus-else-s-self.ensures.of_type c.self.invariant.modulus_is (omega arith) c.if-s-self.false)

@@ -1,31 +1,31 @@
--- What stands at the front of a text: blanks and comments, or a token.
+-- What stands at the start of a text: blanks and comments, or a token.
 use Rattle.std.specs.Prelude.{◌≡◌, ℕ, ◌<◌, ◌≤◌, false, List, [], ◌∷◌, length, take, slice_index, Option, Some, None, MatchOption}
 use Rattle.std.specs.Char.{is_ascii_alphabetic, is_ascii_digit}
 use Rattle.source_lexer.specs.declared.token.TokenKind.{TokenKind}
 use Rattle.source_lexer.specs.Tokens.{fixed_text, IsFixed, IsToken}
 use Rattle.source_lexer.specs.Scan.{comment_after, IsGap, IsLastGap}
 
--- the first n bytes are blanks and comments; behind them comes a byte that is in no gap, or the end
+-- the first n bytes are blanks and comments; after them comes a byte that is in no gap, or the end
 pub record IsLongestGap (text : List ℕ) (n : ℕ) : Type 0 where
   pub inside : n ≤ length text
   pub last : n ≡ length text → IsLastGap text
   pub gap : n < length text → IsGap (take n text)
   pub stop : n < length text → comment_after false (slice_index text n ∷ []) ≡ None
 
--- the first n bytes are a token of this kind, and no more bytes at the front are a token
-pub record IsLongestFront (text : List ℕ) (kind : TokenKind) (n : ℕ) : Type 0 where
+-- the first n bytes are a token of this kind, and no longer prefix is a token
+pub record IsLongestPrefix (text : List ℕ) (kind : TokenKind) (n : ℕ) : Type 0 where
   pub forward : 0 < n
   pub inside : n ≤ length text
   pub is_token : IsToken kind (take n text)
   pub longest : (k : TokenKind) (m : ℕ) → n < m → m ≤ length text → IsToken k (take m text) → ⊥
 
--- no bytes at the front are a token
-abbrev pub HasNoFront : List ℕ → Type 0
-HasNoFront text = (k : TokenKind) (m : ℕ) → 0 < m → m ≤ length text → IsToken k (take m text) → ⊥
+-- no prefix is a token
+abbrev pub HasNoPrefix : List ℕ → Type 0
+HasNoPrefix text = (k : TokenKind) (m : ℕ) → 0 < m → m ≤ length text → IsToken k (take m text) → ⊥
 
--- what was found is the longest token at the front, with its length
-abbrev pub IsFrontToken : List ℕ → Option (TokenKind × ℕ) → Type 0
-IsFrontToken text found = MatchOption found (HasNoFront text) (λ token. IsLongestFront text token.0 token.1)
+-- what was found is the longest token at the start, with its length
+abbrev pub IsPrefixToken : List ℕ → Option (TokenKind × ℕ) → Type 0
+IsPrefixToken text found = MatchOption found (HasNoPrefix text) (λ token. IsLongestPrefix text token.0 token.1)
 
 -- what was found is the kind whose text the bytes are
 abbrev pub IsKindOf : List ℕ → Option TokenKind → Type 0
