@@ -15,5 +15,5 @@ pub use coprime::{
 pub use intervals::product_between;
 pub use residues::{
     quotient_and_residue, residue_of_difference, residue_of_negation, residue_of_product,
-    residue_of_residue, residue_of_sum,
+    residue_of_quotient, residue_of_residue, residue_of_sum,
 };
