@@ -4,22 +4,14 @@ use Rattle.std.proofs.lemmas.Int.{ints}
 use Rattle.std.proofs.lemmas.List.{get_or-map, get_or-take}
 use Rattle.std.proofs.lemmas.Nat.{mul-mod_first}
 use Rattle.std.proofs.Math.Nat.{mod-lt, div-add-mod', div-one}
-use borrow.Author.Differences.{up, down}
 use Rattle.number_theory.specs.Coprime.{IsInverse, product}
 use Rattle.number_theory.specs.Residue.{residue, IsNumberOf}
+use Rattle.number_theory.proofs.QuotientLemmas.{times_difference, residue-quotient}
 use Rattle.number_theory.proofs.ResidueLemmas.{residue_same}
 use Rattle.mixed_radix.specs.Digits.{digits}
 use Rattle.mixed_radix.specs.Chosen.{entries_at}
 use Rattle.mixed_radix.proofs.ChosenLemmas.{get_or-entries_at, length-entries_at}
 use Rattle.mixed_radix.proofs.DigitLemmas.{get_or-digits, div-product_more}
-
--- a difference times y, as a difference of naturals
-times_difference : (a d y : ℕ) → up ((pos a -ℤ pos d) *ℤ pos y) + d * y ≡ a * y + down ((pos a -ℤ pos d) *ℤ pos y)
-times_difference a d y =
-    let x = pos a -ℤ pos d in
-    let apart : up x + d ≡ a + down x = omega (arith, ints) in
-    let scaled : (up x + d) * y ≡ (a + down x) * y = ap (λ n. n * y) apart in
-    omega (arith, ints, scaled)
 
 -- a difference that k turns of m made a natural number
 mod-difference : (s a d y m k : ℕ) → 0 < m → s + d ≡ a + k * m → (s * y) % m ≡ residue ((pos a -ℤ pos d) *ℤ pos y) m
@@ -32,15 +24,6 @@ mod-unscaled a d y m h =
     let s = a + (m - d % m) in
     let turns : s + d ≡ a + (1 + d / m) * m = omega (arith, div-add-mod' d m, mod-lt d h) in
     mul-mod_first s y m ∙ mod-difference s a d y m (1 + d / m) h turns
-
--- q less its remainder by a is divided by a where it is multiplied with the inverse of a
-residue-unscaled : (q a m y : ℕ) → 0 < m → IsInverse a m y → residue ((pos (q % m) -ℤ pos (q % a)) *ℤ pos y) m ≡ (q / a) % m
-residue-unscaled q a m y h inverse =
-    let t = (a * y) / m in
-    let one : a * y ≡ t * m + 1 = omega (arith, div-add-mod' (a * y) m, inverse.leaves_one) in
-    let both : (q / a * a + q % a) * y ≡ (q / m * m + q % m) * y = ap (λ n. n * y) (div-add-mod' q a ∙ sym (div-add-mod' q m)) in
-    let scaled : q / a * (a * y) ≡ q / a * (t * m + 1) = ap (λ n. q / a * n) one in
-    residue_same ((pos (q % m) -ℤ pos (q % a)) *ℤ pos y) (pos (q / a)) m (q / m * y) (q / a * t) h (omega (arith, ints, both, scaled, times_difference (q % m) (q % a) y))
 
 -- ---- what is left of a number at channel m, once the first digits are taken away
 -- before any digit
@@ -64,7 +47,7 @@ left_more which ms found n k m y rest h in' is positive inverse e =
     let next : q / a ≡ n / product (take (k + 1) cs) = ap (λ b. q / b) (sym modulus) ∙ div-product_more cs n k k_in in
     ap (λ r. residue ((pos r -ℤ pos (get_or found k 0)) *ℤ pos y) m) e
     ∙ ap (λ d. residue ((pos (q % m) -ℤ pos d) *ℤ pos y) m) digit
-    ∙ residue-unscaled q a m y positive inverse
+    ∙ sym (residue-quotient (pos q) m a y inverse)
     ∙ ap (λ r. r % m) next
 
 -- all earlier digits: what is left is the digit
