@@ -1,9 +1,11 @@
 -- The distance of lists: it is a metric, and what distance 1 at the most says of the places.
-use Rattle.std.proofs.Common.{◌≡◌, ◌≢◌, ℕ, zero, suc, ◌+◌, ◌<◌, ◌≤◌, ◌==◌, if◌then◌else◌, List, [], ◌∷◌, length, get_or, refl, ap, ◌∙◌, arith, inl, inr}
+use Rattle.std.proofs.Common.{◌≡◌, ◌≢◌, ℕ, zero, suc, ◌+◌, ◌<◌, ◌≤◌, ◌==◌, if◌then◌else◌, Bool, true, false, List, [], ◌∷◌, ◌++◌, length, map, get_or, Option, Some, None, eq-eqb, refl, sym, ap, ◌∙◌, arith, inl, inr}
 use Rattle.std.specs.List.{remove}
-use Rattle.std.proofs.lemmas.Bool.{cases_eq, ne_eqb}
+use Rattle.std.proofs.lemmas.Bool.{cases_eq, cases_lt, ne_eqb}
 use Rattle.std.proofs.lemmas.Bool.Decides.{nat_tests}
-use Rattle.redundant_decoder.specs.Nearest.{distance}
+use Rattle.std.proofs.lemmas.List.{length-map}
+use Rattle.std.proofs.lemmas.List.Edits.{length-remove}
+use Rattle.redundant_decoder.specs.Nearest.{distance, without, different_places}
 
 -- ---- one place
 -- what one place adds to the distance
@@ -63,25 +65,6 @@ pub distance-by_third : (xs ys vs : List ℕ) (t u : ℕ) → length xs ≡ leng
 distance-by_third xs ys vs t u e near_x near_y = omega (arith, distance-triangle xs vs ys e, distance-comm ys vs)
 
 -- ---- distance 1 at the most
--- lists that differ at a place have a distance
-pub distance_from_place : (xs ys : List ℕ) (i : ℕ) → length xs ≡ length ys → i < length xs → get_or xs i 0 ≢ get_or ys i 0 → 1 ≤ distance xs ys
-distance_from_place [] ys i e h differ = absurd (omega arith)
-distance_from_place (x ∷ xs) [] i e h differ = absurd (omega arith)
-distance_from_place (x ∷ xs) (y ∷ ys) zero e h differ = omega (arith, step-other x y differ)
-distance_from_place (x ∷ xs) (y ∷ ys) (suc i) e h differ = omega (arith, distance_from_place xs ys i (omega arith) (omega arith) differ)
-
--- two places at which they differ are one
-pub same_place : (xs ys : List ℕ) (i j : ℕ) → length xs ≡ length ys → distance xs ys ≤ 1 → i < length xs → j < length xs → get_or xs i 0 ≢ get_or ys i 0 → get_or xs j 0 ≢ get_or ys j 0 → i ≡ j
-same_place [] ys i j e near i_in j_in at_i at_j = absurd (omega arith)
-same_place (x ∷ xs) [] i j e near i_in j_in at_i at_j = absurd (omega arith)
-same_place (x ∷ xs) (y ∷ ys) zero zero e near i_in j_in at_i at_j = refl
-same_place (x ∷ xs) (y ∷ ys) zero (suc j) e near i_in j_in at_i at_j =
-    absurd (omega (arith, step-other x y at_i, distance_from_place xs ys j (omega arith) (omega arith) at_j))
-same_place (x ∷ xs) (y ∷ ys) (suc i) zero e near i_in j_in at_i at_j =
-    absurd (omega (arith, step-other x y at_j, distance_from_place xs ys i (omega arith) (omega arith) at_i))
-same_place (x ∷ xs) (y ∷ ys) (suc i) (suc j) e near i_in j_in at_i at_j =
-    ap suc (same_place xs ys i j (omega arith) (omega arith) (omega arith) (omega arith) at_i at_j)
-
 -- lists that agree but for place i
 pub distance_from_remove : (xs ys : List ℕ) (i : ℕ) → length xs ≡ length ys → remove xs i ≡ remove ys i → distance xs ys ≤ 1
 distance_from_remove [] ys i e same = omega arith
@@ -122,3 +105,82 @@ remove_from_distance (x ∷ a ∷ xs) (y ∷ b ∷ ys) e some near =
           let tail = same_from_distance (a ∷ xs) (b ∷ ys) (omega arith) (omega (arith, step-other x y other)) in
           (0, omega arith, tail)
     ]
+
+-- a list that ends at place i or before has nothing to remove there
+pub remove-past : (xs : List ℕ) (i : ℕ) → length xs ≤ i → remove xs i ≡ xs
+remove-past [] zero h = refl
+remove-past [] (suc i) h = refl
+remove-past (x ∷ xs) zero h = absurd (omega arith)
+remove-past (x ∷ xs) (suc i) h = ap (λ rest. x ∷ rest) (remove-past xs i (omega arith))
+
+length-remove_same : (xs ys : List ℕ) (i : ℕ) → length xs ≡ length ys → length (remove xs i) ≡ length (remove ys i)
+length-remove_same xs ys i e =
+    elim (cases_lt i (length xs)) [
+      | inl h ↦ omega (arith, length-remove xs i h, length-remove ys i (omega arith))
+      | inr h ↦ ap length (remove-past xs i h) ∙ e ∙ sym (ap length (remove-past ys i (omega arith)))
+    ]
+
+-- at most one element is removed
+pub length-remove_least : (xs : List ℕ) (i : ℕ) → length xs ≤ length (remove xs i) + 1
+length-remove_least xs i =
+    elim (cases_lt i (length xs)) [
+      | inl h ↦ omega (arith, length-remove xs i h)
+      | inr h ↦ omega (arith, ap length (remove-past xs i h))
+    ]
+
+-- lists of one length have one length without an erased place too
+pub length-without_same : (erased : Option ℕ) (xs ys : List ℕ) → length xs ≡ length ys → length (without erased xs) ≡ length (without erased ys)
+length-without_same None xs ys e = e
+length-without_same (Some i) xs ys e = length-remove_same xs ys i e
+
+-- ---- the places in which lists differ
+-- whether one place is among them
+abbrev mark : ℕ → ℕ → List ℕ
+mark x y = if x == y then [] else (0 ∷ [])
+
+marks_as_step : (b : Bool) (places : List ℕ) (d : ℕ) → length places ≡ d → length ((if b then [] else (0 ∷ [])) ++ map suc places) ≡ (if b then 0 else 1) + d
+marks_as_step true places d e = length-map places suc ∙ e ∙ omega arith
+marks_as_step false places d e = omega (arith, length-map places suc)
+
+distance-none : (xs : List ℕ) → distance xs [] ≡ 0
+distance-none [] = refl
+distance-none (x ∷ xs) = refl
+
+-- there are as many as the distance without the erased place says
+pub length-different_places : (erased : Option ℕ) (xs ys : List ℕ) → length (different_places erased xs ys) ≡ distance (without erased xs) (without erased ys)
+length-different_places None [] ys = refl
+length-different_places (Some zero) [] ys = refl
+length-different_places (Some (suc i)) [] ys = refl
+length-different_places None (x ∷ xs) [] = refl
+length-different_places (Some zero) (x ∷ xs) [] = sym (distance-none xs)
+length-different_places (Some (suc i)) (x ∷ xs) [] = refl
+length-different_places None (x ∷ xs) (y ∷ ys) =
+    marks_as_step (x == y) (different_places None xs ys) _ (length-different_places None xs ys)
+length-different_places (Some zero) (x ∷ xs) (y ∷ ys) =
+    length-map (different_places None xs ys) suc ∙ length-different_places None xs ys
+length-different_places (Some (suc i)) (x ∷ xs) (y ∷ ys) =
+    marks_as_step (x == y) (different_places (Some i) xs ys) _ (length-different_places (Some i) xs ys)
+
+none_from_length : (xs : List ℕ) → length xs ≡ 0 → xs ≡ []
+none_from_length [] e = refl
+none_from_length (x ∷ xs) e = absurd (omega arith)
+
+different_places-self : (xs : List ℕ) → different_places None xs xs ≡ []
+different_places-self xs =
+    none_from_length (different_places None xs xs) (length-different_places None xs xs ∙ distance-self xs)
+
+-- lists that agree but for place i differ there alone
+pub different_places-remove : (xs ys : List ℕ) (i : ℕ) → length xs ≡ length ys → i < length xs → remove xs i ≡ remove ys i → get_or xs i 0 ≢ get_or ys i 0 → different_places None xs ys ≡ i ∷ []
+different_places-remove [] ys i e h same other = absurd (omega arith)
+different_places-remove (x ∷ xs) [] i e h same other = absurd (omega arith)
+different_places-remove (x ∷ xs) (y ∷ ys) zero e h same other =
+    let tail : xs ≡ ys = same in
+    let rest : different_places None xs ys ≡ [] = ap (λ zs. different_places None zs ys) tail ∙ different_places-self ys in
+    ap (λ b. (if b then [] else (0 ∷ [])) ++ map suc (different_places None xs ys)) (ne_eqb x y other)
+    ∙ ap (λ places. 0 ∷ map suc places) rest
+different_places-remove (x ∷ xs) (y ∷ ys) (suc i) e h same other =
+    let head : x ≡ y = cc in
+    let tail : remove xs i ≡ remove ys i = cc in
+    let rest = different_places-remove xs ys i (omega arith) (omega arith) tail other in
+    ap (λ b. (if b then [] else (0 ∷ [])) ++ map suc (different_places None xs ys)) (eq-eqb x y head)
+    ∙ ap (map suc) rest

@@ -1,8 +1,7 @@
 -- The distance law: integers in range that agree for as many moduli as there are information moduli are equal.
-use Rattle.std.proofs.Common.{◌≡◌, ◌≢◌, ℕ, ◌+◌, ◌*◌, ◌<◌, ◌≤◌, Bool, List, Some, length, All, sym, subst, arith, ℤ, inl, inr, length-drop}
+use Rattle.std.proofs.Common.{◌≡◌, ◌≢◌, ℕ, ◌+◌, ◌*◌, ◌<◌, ◌≤◌, Bool, List, Option, Some, None, length, All, sym, subst, arith, ℤ, inl, inr, length-drop}
 use Rattle.std.specs.List.{remove}
 use Rattle.std.proofs.lemmas.Bool.{cases_lt}
-use Rattle.std.proofs.lemmas.List.Edits.{length-remove}
 use Rattle.std.proofs.lemmas.List.Elements.{All-drop, All-weaker, recursion_from_All}
 use Rattle.number_theory.specs.Coprime.{product}
 use Rattle.number_theory.specs.Residue.{residue}
@@ -10,6 +9,7 @@ use Rattle.number_theory.proofs.CoprimeLemmas.{same_from_residues_within}
 use Rattle.moduli_sets.specs.Set.{ModuliSet, IsInRange, IsModulus, IsModuliSet, information, redundant, radius, information_product, range_bound}
 use Rattle.moduli_sets.specs.Vector.{vector_of}
 use Rattle.redundant_decoder.specs.Nearest.{part, distance, without}
+use Rattle.redundant_decoder.proofs.DistanceLemmas.{length-remove_least}
 use Rattle.redundant_decoder.proofs.PartLemmas.{ArePairwiseCoprime-part, product-part, agreeing_places, length-agreeing, map-agreeing, all_kept, all_but, part-all_kept, part-all_but, remove-map}
 
 -- ---- equal integers
@@ -47,12 +47,17 @@ same_from_distance_of_whole set x y rules in_x in_y near =
     same_from_part_distance set (all_kept set.moduli) x y rules in_x in_y (subst at (sym (part-all_kept set.moduli)) enough)
 
 -- and for all but one
-pub same_from_distance_erased : (set : ModuliSet) (i : ℕ) (x y : ℤ) → IsModuliSet set → i < length set.moduli → IsInRange set x → IsInRange set y → distance (remove (vector_of set.moduli x) i) (remove (vector_of set.moduli y) i) ≤ 2 * radius set → x ≡ y
-same_from_distance_erased set i x y rules h in_x in_y near =
+same_from_distance_of_rest : (set : ModuliSet) (i : ℕ) (x y : ℤ) → IsModuliSet set → IsInRange set x → IsInRange set y → distance (remove (vector_of set.moduli x) i) (remove (vector_of set.moduli y) i) ≤ 2 * radius set → x ≡ y
+same_from_distance_of_rest set i x y rules in_x in_y near =
     let apart : distance (vector_of (remove set.moduli i) x) (vector_of (remove set.moduli i) y) ≤ 2 * radius set = rw (← remove-map (residue x) set.moduli i, ← remove-map (residue y) set.moduli i) near in
-    let enough : set.info + distance (vector_of (remove set.moduli i) x) (vector_of (remove set.moduli i) y) ≤ length (remove set.moduli i) = omega (arith, apart, count_of_moduli set rules, length-remove set.moduli i h) in
+    let enough : set.info + distance (vector_of (remove set.moduli i) x) (vector_of (remove set.moduli i) y) ≤ length (remove set.moduli i) = omega (arith, apart, count_of_moduli set rules, length-remove_least set.moduli i) in
     let at = λ (ms : List ℕ). set.info + distance (vector_of ms x) (vector_of ms y) ≤ length ms in
     same_from_part_distance set (all_but set.moduli i) x y rules in_x in_y (subst at (sym (part-all_but set.moduli i)) enough)
+
+-- whether a channel is erased or not
+pub same_from_distance_without : (set : ModuliSet) (erased : Option ℕ) (x y : ℤ) → IsModuliSet set → IsInRange set x → IsInRange set y → distance (without erased (vector_of set.moduli x)) (without erased (vector_of set.moduli y)) ≤ 2 * radius set → x ≡ y
+same_from_distance_without set None x y rules in_x in_y near = same_from_distance_of_whole set x y rules in_x in_y (omega arith)
+same_from_distance_without set (Some i) x y rules in_x in_y near = same_from_distance_of_rest set i x y rules in_x in_y near
 
 -- ---- the law, by contraposition
 -- distinct integers agree in fewer places of a part than there are information moduli
@@ -72,9 +77,9 @@ law_of_whole set x y rules in_x in_y other =
     ]
 
 -- and in as many as there are redundant moduli where a channel is erased
-pub law_of_erased : (set : ModuliSet) (i : ℕ) (x y : ℤ) → IsModuliSet set → i < length set.moduli → IsInRange set x → IsInRange set y → x ≢ y → 2 * radius set + 1 ≤ distance (without (Some i) (vector_of set.moduli x)) (without (Some i) (vector_of set.moduli y))
-law_of_erased set i x y rules h in_x in_y other =
+pub law_of_erased : (set : ModuliSet) (i : ℕ) (x y : ℤ) → IsModuliSet set → IsInRange set x → IsInRange set y → x ≢ y → 2 * radius set + 1 ≤ distance (without (Some i) (vector_of set.moduli x)) (without (Some i) (vector_of set.moduli y))
+law_of_erased set i x y rules in_x in_y other =
     elim (cases_lt (distance (remove (vector_of set.moduli x) i) (remove (vector_of set.moduli y) i)) (2 * radius set + 1)) [
-      | inl near ↦ absurd (other (same_from_distance_erased set i x y rules h in_x in_y (omega arith)))
+      | inl near ↦ absurd (other (same_from_distance_of_rest set i x y rules in_x in_y (omega arith)))
       | inr far ↦ far
     ]

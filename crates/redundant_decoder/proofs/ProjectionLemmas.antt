@@ -1,5 +1,5 @@
 -- The integer in range that has the residues of some channels, and the verdicts that it leads to.
-use Rattle.std.proofs.Common.{◌≡◌, ◌≢◌, ℕ, zero, suc, ◌+◌, ◌-◌, ◌*◌, ◌%◌, ◌^◌, ◌<◌, ◌≤◌, List, [], ◌∷◌, map, length, drop, get_or, slice_index, All, refl, sym, ap, ◌∙◌, subst, arith, ℤ, pos, ◌+ℤ◌, ◌-ℤ◌}
+use Rattle.std.proofs.Common.{◌≡◌, ◌≢◌, ℕ, zero, suc, ◌+◌, ◌-◌, ◌*◌, ◌%◌, ◌^◌, ◌<◌, ◌≤◌, List, [], ◌∷◌, map, length, drop, get_or, slice_index, None, All, refl, sym, ap, ◌∙◌, subst, arith, ℤ, pos, ◌+ℤ◌, ◌-ℤ◌}
 use Rattle.std.specs.List.{range_with_len, remove, AllByRecursion as ByRecursion}
 use Rattle.std.proofs.lemmas.Int.{ints, by_lt_z}
 use Rattle.std.proofs.lemmas.List.{get_or-map, length-map, take_all}
@@ -10,7 +10,7 @@ use Rattle.number_theory.specs.Coprime.{product}
 use Rattle.number_theory.specs.Residue.{residue, AreResidues, IsNumberOf}
 use Rattle.number_theory.proofs.CoprimeLemmas.{same_from_residues}
 use Rattle.number_theory.proofs.ResidueLemmas.{residue_is}
-use Rattle.moduli_sets.specs.Set.{ModuliSet, IsInRange, IsModulus, IsModuliSet, range_bound}
+use Rattle.moduli_sets.specs.Set.{ModuliSet, IsInRange, IsModulus, IsModuliSet, radius, range_bound}
 use Rattle.moduli_sets.specs.Vector.{vector_of}
 use Rattle.mixed_radix.specs.Chosen.{IsChoice, AreBelow, entries_at}
 use Rattle.mixed_radix.specs.Digits.{digits, digits_value}
@@ -153,7 +153,7 @@ all_from_entries_at set v x residues e =
     sym (entries_at-all v (length set.moduli) (length-of set v residues)) ∙ sym e ∙ entries_at-all (vector_of set.moduli x) (length set.moduli) (length-map set.moduli (residue x))
 
 -- the integer of all channels is clean
-pub IsVerdict-clean : (set : ModuliSet) (which v : List ℕ) (x : ℤ) → AreResidues set.moduli v → which ≡ range_with_len 0 (length set.moduli) → IsIntegerOf set which v x → IsVerdict set v (Clean x)
+pub IsVerdict-clean : (set : ModuliSet) (which v : List ℕ) (x : ℤ) → AreResidues set.moduli v → which ≡ range_with_len 0 (length set.moduli) → IsIntegerOf set which v x → IsVerdict (radius set) None set v (Clean x)
 IsVerdict-clean set which v x residues e is =
     (is.in_range, all_from_entries_at set v x residues (subst (λ w. entries_at w (vector_of set.moduli x) ≡ entries_at w v) e is.residues))
 
@@ -172,7 +172,7 @@ entries_at_from_remove set v x i residues e =
     entries_at-without (vector_of set.moduli x) (length set.moduli) i (length-map set.moduli (residue x)) ∙ e ∙ sym (entries_at-without v (length set.moduli) i (length-of set v residues))
 
 -- the integer of all channels but one, where all have none, is corrected
-pub IsVerdict-corrected : (set : ModuliSet) (which v : List ℕ) (x : ℤ) (i : ℕ) → IsModuliSet set → AreResidues set.moduli v → i < length set.moduli → which ≡ remove (range_with_len 0 (length set.moduli)) i → ((y : ℤ) → IsInRange set y → v ≢ vector_of set.moduli y) → IsIntegerOf set which v x → IsCorrection set v x i
+pub IsVerdict-corrected : (set : ModuliSet) (which v : List ℕ) (x : ℤ) (i : ℕ) → IsModuliSet set → AreResidues set.moduli v → i < length set.moduli → which ≡ remove (range_with_len 0 (length set.moduli)) i → ((y : ℤ) → IsInRange set y → v ≢ vector_of set.moduli y) → IsIntegerOf set which v x → IsCorrection (radius set) None set v x i
 IsVerdict-corrected set which v x i rules residues h e none is =
     IsCorrection-from_remove set v x i rules residues is.in_range h
     (remove_from_entries_at set v x i residues (subst (λ w. entries_at w (vector_of set.moduli x) ≡ entries_at w v) e is.residues))

@@ -1,5 +1,5 @@
 -- The distance of vectors, and the nearest integer of a vector.
-use Rattle.std.specs.Prelude.{ℕ, ◌+◌, ◌≤◌, ◌==◌, ℤ, Bool, true, false, List, [], ◌∷◌, Option, Some, None, if◌then◌else◌}
+use Rattle.std.specs.Prelude.{ℕ, zero, suc, ◌+◌, ◌≤◌, ◌==◌, ℤ, Bool, true, false, List, [], ◌∷◌, ◌++◌, map, Option, Some, None, if◌then◌else◌}
 use Rattle.std.specs.List.{remove}
 use Rattle.moduli_sets.specs.Set.{ModuliSet, IsInRange}
 use Rattle.moduli_sets.specs.Vector.{vector_of}
@@ -21,6 +21,14 @@ distance (x ∷ xs) (y ∷ ys) = (if x == y then 0 else 1) + distance xs ys
 abbrev pub without : Option ℕ → List ℕ → List ℕ
 without None xs = xs
 without (Some i) xs = remove xs i
+
+-- the places in which two lists differ, ascending; an erased place is passed over
+abbrev pub different_places : Option ℕ → List ℕ → List ℕ → List ℕ
+different_places erased [] ys = []
+different_places erased (x ∷ xs) [] = []
+different_places None (x ∷ xs) (y ∷ ys) = (if x == y then [] else (0 ∷ [])) ++ map suc (different_places None xs ys)
+different_places (Some zero) (x ∷ xs) (y ∷ ys) = map suc (different_places None xs ys)
+different_places (Some (suc i)) (x ∷ xs) (y ∷ ys) = (if x == y then [] else (0 ∷ [])) ++ map suc (different_places (Some i) xs ys)
 
 -- x is in range, and its vector is at distance t from v at the most; an erased channel counts for nothing
 pub record IsWithin (t : ℕ) (erased : Option ℕ) (set : ModuliSet) (v : List ℕ) (x : ℤ) : Type 0 where

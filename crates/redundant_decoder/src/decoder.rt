@@ -1,4 +1,4 @@
-ghost use Rattle.std.specs.Prelude.{◌≡◌, List, ℕ, Some};
+ghost use Rattle.std.specs.Prelude.{◌≡◌, ◌≤◌, List, ℕ, Option, None};
 ghost use Rattle.number_theory.specs.Residue.{AreResidues};
 ghost use Rattle.moduli_sets.specs.Set.{ModuliSet, IsModuliSet, radius};
 ghost use Rattle.redundant_decoder.specs.Verdict.{IsVerdict};
@@ -21,19 +21,21 @@ pub trait Decoder: Drop {
     /// The set.
     ghost set: { Self → ModuliSet };
 
-    /// The verdict on a vector, which has one residue for each channel, below its modulus.
+    /// The verdict on a vector, which has one residue for each channel, below its modulus. As many wrong residues as
+    /// the radius of the set are corrected, and no channel is erased.
     fn decode(&self, v: &Vector) -> Verdict
         requires { AreResidues (set self.now).moduli v.now }
-        ensures { IsVerdict (set self.now) v.now result };
+        ensures { IsVerdict (radius (set self.now)) None (set self.now) v.now result };
 }
 
-/// A vector has one verdict.
+/// A vector has one verdict, whether a channel is erased or not, where no more wrong residues are corrected than the
+/// radius of the set.
 pub fn one_verdict()
-    ensures { (set : ModuliSet) (v : List ℕ) (a b : Verdict)
+    ensures { (set : ModuliSet) (t : ℕ) (erased : Option ℕ) (v : List ℕ) (a b : Verdict)
         → IsModuliSet set
-        → radius set ≡ 1
         → AreResidues set.moduli v
-        → IsVerdict set v a
-        → IsVerdict set v b
+        → t ≤ radius set
+        → IsVerdict t erased set v a
+        → IsVerdict t erased set v b
         → a ≡ b }
 {}

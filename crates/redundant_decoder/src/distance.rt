@@ -5,7 +5,7 @@ ghost use Rattle.moduli_sets.specs.Vector.{vector_of};
 ghost use Rattle.redundant_decoder.specs.Nearest.{IsNearest, IsWithin, distance, part, without};
 ghost use Rattle.redundant_decoder.specs.Verdict.{HasInteger, IsVerdict};
 ghost use Rattle.redundant_decoder.specs.declared.decoder.Verdict.{Verdict};
-ghost use Rattle.redundant_decoder.specs.declared.decoder.Verdict.TheVariants.{Clean, Corrected, Damaged};
+ghost use Rattle.redundant_decoder.specs.declared.decoder.Verdict.TheVariants.{Damaged};
 
 /// The distance law. Over any part of the moduli two distinct integers in range agree in fewer places than there are
 /// information moduli. So their vectors differ in more places than there are redundant moduli, and in one place less
@@ -25,45 +25,49 @@ pub fn distance_law()
         → 2 * radius set + 2 ≤ distance (vector_of set.moduli x) (vector_of set.moduli y) }
     ensures erased { (set : ModuliSet) (i : ℕ) (x y : ℤ)
         → IsModuliSet set
-        → i < length set.moduli
         → IsInRange set x
         → IsInRange set y
         → x ≢ y
         → 2 * radius set + 1 ≤ distance (without (Some i) (vector_of set.moduli x)) (without (Some i) (vector_of set.moduli y)) }
 {}
 
-/// A vector has one nearest integer at the most: within the radius of the set, whether a channel is erased or not.
+/// A vector has one nearest integer at the most within the radius of the set, whether a channel is erased or not.
 pub fn nearest_is_the_only_one()
-    ensures whole { (set : ModuliSet) (v : List ℕ) (x y : ℤ)
+    ensures { (set : ModuliSet) (t : ℕ) (erased : Option ℕ) (v : List ℕ) (x y : ℤ)
         → IsModuliSet set
         → AreResidues set.moduli v
-        → IsNearest (radius set) None set v (Some x)
-        → IsNearest (radius set) None set v (Some y)
-        → x ≡ y }
-    ensures erased { (set : ModuliSet) (i : ℕ) (v : List ℕ) (x y : ℤ)
-        → IsModuliSet set
-        → i < length set.moduli
-        → AreResidues set.moduli v
-        → IsNearest (radius set) (Some i) set v (Some x)
-        → IsNearest (radius set) (Some i) set v (Some y)
+        → t ≤ radius set
+        → IsNearest t erased set v (Some x)
+        → IsNearest t erased set v (Some y)
         → x ≡ y }
 {}
 
-/// What wrong residues lead to. Where the vector of an integer in range has wrong residues, as many as the radius
-/// at the most, the verdict is that integer; with one more wrong residue no integer is near, and it is Damaged.
+/// What wrong residues lead to, where t of them are corrected, as many as the radius at the most. Where the vector of
+/// an integer in range has t wrong residues or fewer, an erased channel aside, the verdict is that integer. With
+/// one wrong residue more, and no channel erased, no integer is near, and it is Damaged.
 pub fn wrong_residues()
-    ensures corrected { (set : ModuliSet) (v : List ℕ) (x : ℤ) (verdict : Verdict)
+    ensures corrected { (set : ModuliSet) (t : ℕ) (v : List ℕ) (x : ℤ) (verdict : Verdict)
         → IsModuliSet set
         → AreResidues set.moduli v
         → IsInRange set x
-        → distance (vector_of set.moduli x) v ≤ radius set
-        → IsVerdict set v verdict
+        → t ≤ radius set
+        → distance (vector_of set.moduli x) v ≤ t
+        → IsVerdict t None set v verdict
         → HasInteger verdict x }
-    ensures detected { (set : ModuliSet) (v : List ℕ) (x : ℤ) (verdict : Verdict)
+    ensures erased { (set : ModuliSet) (t i : ℕ) (v : List ℕ) (x : ℤ) (verdict : Verdict)
         → IsModuliSet set
         → AreResidues set.moduli v
         → IsInRange set x
-        → distance (vector_of set.moduli x) v ≡ radius set + 1
-        → IsVerdict set v verdict
+        → t ≤ radius set
+        → distance (without (Some i) (vector_of set.moduli x)) (without (Some i) v) ≤ t
+        → IsVerdict t (Some i) set v verdict
+        → HasInteger verdict x }
+    ensures detected { (set : ModuliSet) (t : ℕ) (v : List ℕ) (x : ℤ) (verdict : Verdict)
+        → IsModuliSet set
+        → AreResidues set.moduli v
+        → IsInRange set x
+        → t ≤ radius set
+        → distance (vector_of set.moduli x) v ≡ t + 1
+        → IsVerdict t None set v verdict
         → verdict ≡ Damaged }
 {}

@@ -19,30 +19,30 @@ pub struct Projecting {
 impl Projecting {
     /// The decoder of a set.
     pub fn of(set: &Moduli) -> Projecting
-        ensures { set_of result.set ≡ set_of set.now }
+        ensures { ⟦<Projecting as Decoder>⟧.set result ≡ set_of set.now }
     {
         Projecting { set: *set }
     }
+}
 
-    /// The integer in range that has the vector's residues in the chosen channels, where there is one: their number y,
-    /// or y less the product of their moduli.
-    fn integer_of(&self, which: &Chosen, v: &Vector) -> Option<i128>
-        requires residues { AreResidues (set_of self.now.set).moduli v.now }
-        requires channels { AreBelow (length (set_of self.now.set).moduli) which.now }
-        ensures found { IfSome result (λ x. IsIntegerOf (set_of self.now.set) which.now v.now x) }
-        ensures none { IfNone result ((x : ℤ) → IsIntegerOf (set_of self.now.set) which.now v.now x → ⊥) }
-    {
-        self.set.rules();
-        let product = product_of(&self.set, which) as i128;
-        let y = value_of(&self.set, which, &digits_of(&self.set, which, v)) as i128;
-        let bound = self.set.bound();
-        if y <= bound {
-            Some(y)
-        } else if product - y <= bound {
-            Some(y - product)
-        } else {
-            None
-        }
+/// The integer in range that has the vector's residues in the chosen channels, where there is one: their number y, or
+/// y less the product of their moduli.
+fn integer_of(set: &Moduli, which: &Chosen, v: &Vector) -> Option<i128>
+    requires residues { AreResidues (set_of set.now).moduli v.now }
+    requires channels { AreBelow (length (set_of set.now).moduli) which.now }
+    ensures found { IfSome result (λ x. IsIntegerOf (set_of set.now) which.now v.now x) }
+    ensures none { IfNone result ((x : ℤ) → IsIntegerOf (set_of set.now) which.now v.now x → ⊥) }
+{
+    set.rules();
+    let product = product_of(set, which) as i128;
+    let y = value_of(set, which, &digits_of(set, which, v)) as i128;
+    let bound = set.bound();
+    if y <= bound {
+        Some(y)
+    } else if product - y <= bound {
+        Some(y - product)
+    } else {
+        None
     }
 }
 
@@ -66,11 +66,11 @@ impl Decoder for Projecting {
 
     fn decode(&self, v: &Vector) -> Verdict {
         self.set.rules();
-        if let Some(x) = self.integer_of(&Chosen::all(&self.set), v) {
+        if let Some(x) = integer_of(&self.set, &Chosen::all(&self.set), v) {
             return Verdict::Clean(x);
         }
         for i in 0..self.set.count() {
-            if let Some(x) = self.integer_of(&Chosen::without(&self.set, i), v) {
+            if let Some(x) = integer_of(&self.set, &Chosen::without(&self.set, i), v) {
                 return Verdict::Corrected(x, i);
             }
         }

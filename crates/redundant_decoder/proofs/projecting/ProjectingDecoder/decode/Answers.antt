@@ -1,10 +1,10 @@
-use Rattle.std.proofs.Common.{◌≡◌, ◌≢◌, ◌<◌, ℤ, length, to_z, of_z, sym, subst, arith, rules}
+use Rattle.std.proofs.Common.{◌≡◌, ◌≢◌, ◌<◌, ℤ, None, length, to_z, of_z, sym, subst, arith, rules}
 use Rattle.std.specs.Int.{w128}
 use Rattle.std.specs.List.{remove}
 use Rattle.std.proofs.lemmas.Int.{to_z-of_z}
 use borrow.Author.Count.{below_more}
 use Rattle.moduli_sets.specs.Moduli.{set_of}
-use Rattle.moduli_sets.specs.Set.{IsInRange}
+use Rattle.moduli_sets.specs.Set.{IsInRange, radius}
 use Rattle.moduli_sets.specs.Vector.{vector_of}
 use Rattle.redundant_decoder.specs.Verdict.{IsCorrection, IsVerdict}
 use Rattle.redundant_decoder.specs.declared.decoder.Verdict.TheVariants.{Clean}
@@ -19,7 +19,7 @@ pub returns-in-Some : goal.returns-in-Some
 returns-in-Some c =
     let set = set_of c.args.self.now.set in
     let kept : to_z w128 (of_z w128 c.in-Some.x) ≡ c.in-Some.x = to_z-of_z w128 c.in-Some.x (search rules) in
-    subst (λ x. IsVerdict set c.args.v.now (Clean x)) (sym kept) (IsVerdict-clean set c.all.result c.args.v.now c.in-Some.x c.requires c.all.ensures c.in-Some.ensures.found)
+    subst (λ x. IsVerdict (radius set) None set c.args.v.now (Clean x)) (sym kept) (IsVerdict-clean set c.all.result c.args.v.now c.in-Some.x c.requires c.all.ensures c.in-Some.ensures.found)
 
 pub integer_of-requires-in-loop-i-clause-channels : goal.integer_of-requires-in-loop-i-clause-channels
 integer_of-requires-in-loop-i-clause-channels c = AreBelow-without _ c.loop-i.i _ c.without.ensures
@@ -31,7 +31,7 @@ returns-in-Some-integer_of c =
     let kept : to_z w128 (of_z w128 x) ≡ x = to_z-of_z w128 x (search rules) in
     let none = none_clean set c.all.result c.args.v.now c.in_default.ensures.none in
     let channel : c.loop-i.i < length set.moduli = omega arith in
-    subst (λ y. IsCorrection set c.args.v.now y c.loop-i.i) (sym kept) (IsVerdict-corrected set c.without.result c.args.v.now x c.loop-i.i c.rules.ensures.set c.requires channel c.without.ensures none c.in-Some-integer_of.ensures.found)
+    subst (λ y. IsCorrection (radius set) None set c.args.v.now y c.loop-i.i) (sym kept) (IsVerdict-corrected set c.without.result c.args.v.now x c.loop-i.i c.rules.ensures.set c.requires channel c.without.ensures none c.in-Some-integer_of.ensures.found)
 
 pub loop-i-preserved : goal.loop-i-preserved
 loop-i-preserved c =

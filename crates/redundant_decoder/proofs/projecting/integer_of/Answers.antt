@@ -6,17 +6,17 @@ use Rattle.moduli_sets.specs.Set.{range_bound}
 use Rattle.mixed_radix.specs.Chosen.{entries_at}
 use Rattle.redundant_decoder.specs.Projection.{IsIntegerOf}
 use Rattle.redundant_decoder.proofs.ProjectionLemmas.{IsNumberOf-value, IsIntegerOf-number, IsIntegerOf-less_product, IsIntegerOf-none}
-use Rattle.redundant_decoder.proofs.projecting.Projecting.integer_of.Goals as goal
+use Rattle.redundant_decoder.proofs.projecting.integer_of.Goals as goal
 
 pub overflow_cast-y : goal.overflow_cast-y
 overflow_cast-y c =
     let which = c.args.which.now in
-    let number = IsNumberOf-value (entries_at which (set_of c.args.self.now.set).moduli) (entries_at which c.args.v.now) c.digits_of.result c.value_of-y.result c.digits_of.ensures.number c.value_of-y.ensures in
+    let number = IsNumberOf-value (entries_at which (set_of c.args.set.now).moduli) (entries_at which c.args.v.now) c.digits_of.result c.value_of-y.result c.digits_of.ensures.number c.value_of-y.ensures in
     omega (arith, ints, number.small, c.product_of-product.ensures.value, c.product_of-product.ensures.fits)
 
 pub returns-then-y-bound-clause-found : goal.returns-then-y-bound-clause-found
 returns-then-y-bound-clause-found c =
-    let set = set_of c.args.self.now.set in
+    let set = set_of c.args.set.now in
     let which = c.args.which.now in
     let y = c.value_of-y.result in
     let number = IsNumberOf-value (entries_at which set.moduli) (entries_at which c.args.v.now) c.digits_of.result y c.digits_of.ensures.number c.value_of-y.ensures in
@@ -27,7 +27,7 @@ returns-then-y-bound-clause-found c =
 
 pub returns-then-product-y-clause-found : goal.returns-then-product-y-clause-found
 returns-then-product-y-clause-found c =
-    let set = set_of c.args.self.now.set in
+    let set = set_of c.args.set.now in
     let which = c.args.which.now in
     let y = c.value_of-y.result in
     let p = c.product_of-product.result in
@@ -40,7 +40,7 @@ returns-then-product-y-clause-found c =
 
 pub returns-else-product-y-clause-none : goal.returns-else-product-y-clause-none
 returns-else-product-y-clause-none c =
-    let set = set_of c.args.self.now.set in
+    let set = set_of c.args.set.now in
     let which = c.args.which.now in
     let y = c.value_of-y.result in
     let p = c.product_of-product.result in
