@@ -41,9 +41,10 @@ pub record IsModulus (m : ℕ) : Type 0 where
 pub record IsModuliSet (set : ModuliSet) : Type 0 where
   pub at_least_four : 4 ≤ length set.moduli
   pub at_most_twelve : length set.moduli ≤ 12
-  -- an odd number of redundant moduli, at least three
+  -- three redundant moduli, or five
   pub odd : length (redundant set) ≡ 2 * radius set + 1
-  pub corrects : 1 ≤ radius set
+  pub radius_at_least_one : 1 ≤ radius set
+  pub radius_at_most_two : radius set ≤ 2
   pub moduli : All IsModulus set.moduli
   pub coprime : ArePairwiseCoprime set.moduli
   -- each redundant modulus is larger than each information modulus

@@ -107,7 +107,7 @@ IsCorrection-from_remove set v x i rules residues in_x h same other =
     let vx = vector_of set.moduli x in
     let even = length-vector set.moduli v x residues in
     let long : length vx ≡ length set.moduli = length-map set.moduli (residue x) in
-    let close : distance vx v ≤ radius set = omega (arith, distance_from_remove vx v i even same, rules.corrects) in
+    let close : distance vx v ≤ radius set = omega (arith, distance_from_remove vx v i even same, rules.radius_at_least_one) in
     record {
       nearest = record { in_range = in_x; close = close };
       places = different_places-remove vx v i even (omega (arith, long)) same (λ e. other (sym (same_from_remove vx v i even (omega (arith, long)) same e)));
