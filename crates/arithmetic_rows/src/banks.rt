@@ -2,12 +2,11 @@ ghost use Rattle.std.specs.Prelude.{◌≡◌, ℕ, ◌<◌, length};
 ghost use Rattle.moduli_sets.specs.Name.{set_of_name};
 ghost use Rattle.channel_lane.specs.Lane.{LaneState, CanPerform, lane_at_start};
 
-use crate::sets::is_vector;
 use channel_alu::{MicroOp, Place, Plain, Plus, Power};
 use channel_lane::laws_of_lanes;
 use fault_book::Faults;
 use lane_bank::{Bank, Cons, Nil, lanes_of_new_banks, perform_in_all};
-use moduli_sets::{Moduli, SetName};
+use moduli_sets::{Moduli, SetName, Vector};
 use set_banks::{PocketBank, banks_fit_their_sets};
 use std::alloc::{AllocError, Global};
 use std::test::Fail;
@@ -15,6 +14,13 @@ use std::test::Fail;
 const TO: Place = Place::Reg(0);
 
 const FIRST: Place = Place::Word(0);
+
+/// Whether a vector has these residues.
+fn is_vector(vector: &Vector, residues: &[u32]) -> bool {
+    vector.len() == residues.len()
+        && residues.iter().enumerate().all(|(i, residue)| i < vector.len()
+            && vector.at(i) == *residue)
+}
 
 /// The answer of lane i to an operation that every lane can perform. None where there is no such lane, or its
 /// answers cannot be counted any more.

@@ -1,5 +1,4 @@
-//! Worked rows of the arithmetic units: tests of `moduli_sets`, `channel_alu`, `fault_book`, `channel_lane`, `lane_bank`
-//! and `set_banks`.
+//! Worked rows of the arithmetic units: tests of `channel_alu`, `fault_book`, `channel_lane`, `lane_bank` and `set_banks`.
 //!
 //! A crate with tests is proved twice, so those of the units stand here, above them. Nothing comes in or goes out.
 #![tactic(auto)]
@@ -10,5 +9,3 @@ mod banks;
 mod channels;
 #[cfg(test)]
 mod faults;
-#[cfg(test)]
-mod sets;

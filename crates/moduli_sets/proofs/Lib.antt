@@ -1,2 +1,3 @@
+mod Rows
 pub mod SetLemmas
 pub mod VectorLemmas

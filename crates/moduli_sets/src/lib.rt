@@ -2,7 +2,8 @@
 //!
 //! A set has information moduli, whose residues tell an integer in range, and redundant moduli, by which
 //! wrong residues are found. In come the names of sets and integers in range, out go moduli, inverses and
-//! vectors of residues. The crate stands on `number_theory`; every crate of the machine stands on it.
+//! vectors of residues. The crate stands on `number_theory`; every crate of the machine stands on it. Its tests stand in
+//! `residue_tests`.
 #![tactic(auto)]
 
 mod counts;

@@ -2,4 +2,5 @@ pub mod DistanceLemmas
 pub mod LawLemmas
 pub mod PartLemmas
 pub mod ProjectionLemmas
+mod Rows
 pub mod VerdictLemmas

@@ -1,5 +1,3 @@
-use Rattle.std.proofs.Common.{sym}
-use Rattle.number_theory.specs.Coprime.{IsInverse}
 use Rattle.moduli_sets.proofs.SetLemmas.{IsInverse-of, inverse_of-table}
 use Rattle.moduli_sets.proofs.moduli.Moduli.inverse.Goals as goal
 

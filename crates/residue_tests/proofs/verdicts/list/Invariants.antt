@@ -1,5 +1,5 @@
 use Rattle.std.proofs.Common.{◌≡◌, take}
-use Rattle.redundant_decoder.proofs.tests.list.Given as goal
+use Rattle.residue_tests.proofs.verdicts.list.Given as goal
 
 abbrev pub invariant-loop-residue : goal.invariant-loop-residue
 invariant-loop-residue l = l.vector ≡ take l.residue-index l.residues

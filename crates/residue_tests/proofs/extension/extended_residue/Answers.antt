@@ -4,7 +4,7 @@ use Rattle.moduli_sets.specs.Moduli.{set_of}
 use Rattle.mixed_radix.specs.Chosen.{AreBelow}
 use Rattle.mixed_radix.proofs.ChosenLemmas.{AreBelow-range}
 use Rattle.mixed_radix.proofs.SignLemmas.{AreResidues-vector_of}
-use Rattle.base_extension.proofs.tests.extended.Goals as goal
+use Rattle.residue_tests.proofs.extension.extended_residue.Goals as goal
 
 pub digits_of-requires-clause-residues : goal.digits_of-requires-clause-residues
 digits_of-requires-clause-residues c =

@@ -1,7 +1,7 @@
 use moduli_sets::{Counts, Digits, Kind, Moduli, SetName, Vector, residue_of};
 
 /// Whether a vector has these residues.
-pub fn is_vector(vector: &Vector, residues: &[u32]) -> bool {
+fn is_vector(vector: &Vector, residues: &[u32]) -> bool {
     vector.len() == residues.len()
         && residues.iter().enumerate().all(|(i, residue)| i < vector.len()
             && vector.at(i) == *residue)
@@ -35,7 +35,6 @@ fn sets(rt: HostRuntime) {
         assert!(rt; SetName::named(word) == Some(name));
         let set = Moduli::of(name);
         set.rules();
-        set.tells_apart();
         assert!(rt; set.info() == info && set.bound() == bound && 4 <= set.count());
         let found = [
             set.modulus(0),

@@ -2,12 +2,12 @@ ghost use Rattle.std.specs.Prelude.{◌≤◌};
 ghost use Rattle.moduli_sets.specs.Moduli.{set_of};
 ghost use Rattle.moduli_sets.specs.Set.{IsInRange};
 
-use crate::{extend, scaled_residue};
+use base_extension::{extend, scaled_residue};
 use mixed_radix::{Chosen, digits_of};
 use moduli_sets::{Moduli, SetName};
 
 /// The residue modulo p of the number that has x's residues at all channels.
-fn extended(set: &Moduli, x: i128, p: u32) -> u32
+fn extended_residue(set: &Moduli, x: i128, p: u32) -> u32
     requires range { IsInRange (set_of set.now) x }
     requires positive { 1 ≤ p }
     requires fits { p ≤ 65535 }
@@ -20,12 +20,12 @@ fn extended(set: &Moduli, x: i128, p: u32) -> u32
 #[test]
 fn further_moduli(rt: HostRuntime) {
     let set = Moduli::of(SetName::Pocket);
-    assert_eq!(rt; extended(&set, 42, 7), 0);
-    assert_eq!(rt; extended(&set, 42, 16), 10);
-    assert_eq!(rt; extended(&set, 42, 65_535), 42);
-    assert_eq!(rt; extended(&set, 42, 1), 0);
+    assert_eq!(rt; extended_residue(&set, 42, 7), 0);
+    assert_eq!(rt; extended_residue(&set, 42, 16), 10);
+    assert_eq!(rt; extended_residue(&set, 42, 65_535), 42);
+    assert_eq!(rt; extended_residue(&set, 42, 1), 0);
     // 1,007,760, the product of all moduli, less 97
-    assert_eq!(rt; extended(&set, -97, 65_535), 24_638);
+    assert_eq!(rt; extended_residue(&set, -97, 65_535), 24_638);
 }
 
 #[test]

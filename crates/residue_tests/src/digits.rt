@@ -3,7 +3,7 @@ ghost use Rattle.moduli_sets.specs.Moduli.{set_of};
 ghost use Rattle.moduli_sets.specs.Set.{IsInRange};
 ghost use Rattle.mixed_radix.specs.Chosen.{AreBelow};
 
-use crate::{Chosen, compare, digits_of, digits_write_one_number, sign_of, value_of};
+use mixed_radix::{Chosen, compare, digits_of, sign_of, value_of};
 use moduli_sets::{Digits, Moduli, SetName};
 use std::cmp::Ordering;
 
@@ -20,12 +20,11 @@ fn list(numbers: &[u32]) -> Digits
 }
 
 /// The digits that x's residues have at the chosen channels, and the number that they write.
-fn written(set: &Moduli, which: &Chosen, x: i128) -> (Digits, u128)
+fn digits_and_value(set: &Moduli, which: &Chosen, x: i128) -> (Digits, u128)
     requires range { IsInRange (set_of set.now) x }
     requires channels { AreBelow (length (set_of set.now).moduli) which.now }
 {
     set.rules();
-    digits_write_one_number();
     let digits = digits_of(set, which, &set.residues_of(x));
     let value = value_of(set, which, &digits);
     (digits, value)
@@ -35,10 +34,13 @@ fn written(set: &Moduli, which: &Chosen, x: i128) -> (Digits, u128)
 fn all_channels(rt: HostRuntime) {
     let set = Moduli::of(SetName::Pocket);
     let which = Chosen::all(&set);
-    assert_eq!(rt; written(&set, &which, 42), (list(&[3, 3, 0, 0, 0]), 42));
+    assert_eq!(rt;
+        digits_and_value(&set, &which, 42),
+        (list(&[3, 3, 0, 0, 0]), 42)
+    );
     // the product of all moduli, less 97
     assert_eq!(rt;
-        written(&set, &which, -97),
+        digits_and_value(&set, &which, -97),
         (list(&[7, 7, 15, 16, 18]), 1_007_663)
     );
 }
@@ -47,8 +49,8 @@ fn all_channels(rt: HostRuntime) {
 fn information_channels(rt: HostRuntime) {
     let set = Moduli::of(SetName::Pocket);
     let which = Chosen::info(&set);
-    assert_eq!(rt; written(&set, &which, 42), (list(&[3, 3]), 42));
-    assert_eq!(rt; written(&set, &which, -97), (list(&[7, 7]), 98));
+    assert_eq!(rt; digits_and_value(&set, &which, 42), (list(&[3, 3]), 42));
+    assert_eq!(rt; digits_and_value(&set, &which, -97), (list(&[7, 7]), 98));
 }
 
 #[test]
@@ -56,17 +58,23 @@ fn some_channels(rt: HostRuntime) {
     let set = Moduli::of(SetName::Pocket);
     let which = Chosen::without(&set, 2);
     assert_eq!(rt; (which.len(), which.at(1), which.at(2)), (4, 1, 3));
-    assert_eq!(rt; written(&set, &which, -97), (list(&[7, 7, 16, 18]), 62_888));
+    assert_eq!(rt;
+        digits_and_value(&set, &which, -97),
+        (list(&[7, 7, 16, 18]), 62_888)
+    );
     let which = Chosen::but(&set, 0, 3);
     assert_eq!(rt; (which.len(), which.at(0), which.at(2)), (3, 1, 4));
-    assert_eq!(rt; written(&set, &which, -97), (list(&[8, 9, 18]), 4_463));
+    assert_eq!(rt;
+        digits_and_value(&set, &which, -97),
+        (list(&[8, 9, 18]), 4_463)
+    );
 }
 
 #[test]
 fn least_integer_of_desk(rt: HostRuntime) {
     let set = Moduli::of(SetName::Desk);
     assert_eq!(rt;
-        written(&set, &Chosen::all(&set), -451_727_098_179),
+        digits_and_value(&set, &Chosen::all(&set), -451_727_098_179),
         (
             list(&[120, 120, 123, 125, 126, 254, 255, 256]),
             15_157_214_462_419_990_461

@@ -2,7 +2,7 @@ use Rattle.std.proofs.Common.{sym, subst}
 use Rattle.number_theory.specs.Residue.{AreResidues}
 use Rattle.moduli_sets.specs.Moduli.{set_of}
 use Rattle.mixed_radix.proofs.SignLemmas.{AreResidues-vector_of}
-use Rattle.mixed_radix.proofs.tests.written.Goals as goal
+use Rattle.residue_tests.proofs.digits.digits_and_value.Goals as goal
 
 pub digits_of-digits-requires-clause-residues : goal.digits_of-digits-requires-clause-residues
 digits_of-digits-requires-clause-residues c =
