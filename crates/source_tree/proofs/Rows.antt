@@ -91,8 +91,7 @@ by_zero = record {
 }
 
 pub by_zero_traps : outcome (meaning by_zero []) ≡ ((pos 7 ∷ pos 0 ∷ []), Some (kind.Zero, 5))
-by_zero_traps = rw execution-Assign (rw evaluation-Number (rw execution-Print (rw evaluation-Name (rw
-    execution-Print (rw evaluation-Name (rw execution-Print (rw evaluation-Binary (rw evaluation-Name (rw
+by_zero_traps = rw execution-Assign (rw evaluation-Number (rw execution-Print (rw evaluation-Name (rw execution-Print (rw evaluation-Name (rw execution-Print (rw evaluation-Binary (rw evaluation-Name (rw
     evaluation-Name refl)))))))))
 
 -- var x: 0..9;
@@ -319,8 +318,7 @@ called_in_a_loop = record {
 }
 
 pub called_in_a_loop_means : outcome (meaning called_in_a_loop []) ≡ ((pos 7 ∷ pos 7 ∷ []), None)
-called_in_a_loop_means = rw execution-For (rw evaluation-Number (rw evaluation-Number (rw execution-Call (rw
-    execution-Print (rw evaluation-Name (rw execution-Assign (rw evaluation-Number refl)))))))
+called_in_a_loop_means = rw execution-For (rw evaluation-Number (rw evaluation-Number (rw execution-Call (rw execution-Print (rw evaluation-Name (rw execution-Assign (rw evaluation-Number refl)))))))
 
 -- print 1;
 abbrev one : Program
