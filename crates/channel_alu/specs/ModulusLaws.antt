@@ -1,4 +1,5 @@
--- Each channel type has a modulus that fits 16 bits, whatever its parameter is.
+-- Each channel type has a modulus that fits 16 bits, whatever its parameter is. These lemmas stand in specs/ since the
+-- laws of the types' impls cite them, and an impl may cite nothing of its own crate's proofs/.
 use Rattle.std.specs.Prelude.{ℕ, ◌^◌, ◌≤◌}
 use Rattle.std.proofs.Common.{arith}
 use Rattle.std.proofs.lemmas.Bool.Decides.{nat_tests}

@@ -2,11 +2,12 @@ ghost use Rattle.std.specs.Prelude.{◌≡◌, ◌+◌, ◌*◌, ◌/◌, ◌%�
 ghost use Rattle.channel_alu.specs.Modulus.{ones_modulus, ones_bits};
 ghost use Rattle.channel_alu.specs.ModulusLaws.{le-ones_modulus, ones_modulus-le};
 
-use crate::Channel;
 use crate::bits::{carry_out, low_bits};
+use crate::{Channel, FixedChannel};
 
 /// The channel of modulus 2^K - 1, by end-around carry: what is carried out of K bits is added at the bottom.
 /// Where K isn't 2 to 16 the modulus is 3, as for 2.
+#[derive(Clone, Copy)]
 pub struct Ones<const K: u32>;
 
 impl<const K: u32> Ones<K> {
@@ -27,24 +28,32 @@ fn end_around(x: u32, bits: u32) -> u32
 }
 
 impl<const K: u32> Channel for Ones<K> {
-    ghost MODULUS = { ones_modulus K };
+    ghost modulus = { λ _. ones_modulus K };
 
-    ghost modulus_at_least_two = { le-ones_modulus K };
+    ghost modulus_at_least_two = { λ _. le-ones_modulus K };
 
-    ghost modulus_fits = { ones_modulus-le K };
+    ghost modulus_fits = { λ _. ones_modulus-le K };
 
-    fn modulus() -> u32 {
+    fn modulus(&self) -> u32 {
         (1 << Self::bits()) - 1
     }
 
-    fn reduce(x: u32) -> u32 {
+    fn reduce(&self, x: u32) -> u32 {
         let bits = Self::bits();
         let reduced = end_around(end_around(x, bits), bits);
         // all bits set stand for 0
-        if reduced == Self::modulus() {
+        if reduced == self.modulus() {
             0
         } else {
             reduced
         }
+    }
+}
+
+impl<const K: u32> FixedChannel for Ones<K> {
+    ghost MODULUS = { ones_modulus K };
+
+    fn new() -> Self {
+        Ones
     }
 }

@@ -7,27 +7,23 @@ use Rattle.number_theory.specs.Residue.{residue}
 use Rattle.number_theory.proofs.ResidueLemmas.{residue-below, residue-sub, residue-mul, residue-residue}
 
 -- the operands are x and y, and the modulus m is k
-pub add_same : (r a b x y m n k : ℕ) → r ≡ (a + b) % m → a ≡ x → b ≡ y → n ≡ k → n ≡ m → r ≡ (x + y) % k
-add_same r a b x y m n k value left right set type = cc
+pub add_same : (r a b x y m k : ℕ) → r ≡ (a + b) % m → a ≡ x → b ≡ y → m ≡ k → r ≡ (x + y) % k
+add_same r a b x y m k value left right same = cc
 
-pub sub_same : (r a b x y m n k : ℕ) → r ≡ residue (pos a -ℤ pos b) m → a ≡ x → b ≡ y → n ≡ k → n ≡ m → r ≡ residue (pos x -ℤ pos y) k
-sub_same r a b x y m n k value left right set type = cc
+pub sub_same : (r a b x y m k : ℕ) → r ≡ residue (pos a -ℤ pos b) m → a ≡ x → b ≡ y → m ≡ k → r ≡ residue (pos x -ℤ pos y) k
+sub_same r a b x y m k value left right same = cc
 
-pub mul_same : (r a b x y m n k : ℕ) → r ≡ (a * b) % m → a ≡ x → b ≡ y → n ≡ k → n ≡ m → r ≡ (x * y) % k
-mul_same r a b x y m n k value left right set type = cc
+pub mul_same : (r a b x y m k : ℕ) → r ≡ (a * b) % m → a ≡ x → b ≡ y → m ≡ k → r ≡ (x * y) % k
+mul_same r a b x y m k value left right same = cc
 
-pub mul_add_same : (r a b c x y z m n k : ℕ) → r ≡ (a * b + c) % m → a ≡ x → b ≡ y → c ≡ z → n ≡ k → n ≡ m → r ≡ (x * y + z) % k
-mul_add_same r a b c x y z m n k value left right plus set type = cc
+pub mul_add_same : (r a b c x y z m k : ℕ) → r ≡ (a * b + c) % m → a ≡ x → b ≡ y → c ≡ z → m ≡ k → r ≡ (x * y + z) % k
+mul_add_same r a b c x y z m k value left right plus same = cc
 
-pub neg_same : (r a x m n k : ℕ) → r ≡ residue (neg_ℤ (pos a)) m → a ≡ x → n ≡ k → n ≡ m → r ≡ residue (neg_ℤ (pos x)) k
-neg_same r a x m n k value from set type = cc
+pub neg_same : (r a x m k : ℕ) → r ≡ residue (neg_ℤ (pos a)) m → a ≡ x → m ≡ k → r ≡ residue (neg_ℤ (pos x)) k
+neg_same r a x m k value from same = cc
 
-pub held_same : (r x m n k : ℕ) → r ≡ x → r < m → n ≡ k → n ≡ m → r ≡ x % k
-held_same r x m n k value below set type =
-    sym (mod-eq_of_lt below) ∙ ap (λ a. a % m) value ∙ ap (λ a. x % a) (sym type ∙ set)
-
-pub put_same : (r n k : ℕ) (z value : ℤ) → r ≡ residue z n → z ≡ value → n ≡ k → r ≡ residue value k
-put_same r n k z value e same set = cc
+pub put_same : (r n m k : ℕ) (z value : ℤ) → r ≡ residue z n → z ≡ value → n ≡ m → m ≡ k → r ≡ residue value k
+put_same r n m k z value e same arithmetic set = cc
 
 -- what is taken may be reduced before
 sub-reduced : (x take m : ℕ) → 0 < m → residue (pos x -ℤ pos (take % m)) m ≡ residue (pos x -ℤ pos take) m

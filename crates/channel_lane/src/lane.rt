@@ -7,30 +7,31 @@ use channel_alu::{Channel, MicroOp, Place};
 use fault_book::Faults;
 use moduli_sets::{Moduli, residue_of};
 use std::alloc::{AllocError, Global};
-use std::marker::{Model, PhantomData};
+use std::marker::Model;
 
 /// What one channel holds: 16 registers, 8 scratch places and the data words, each a residue below the modulus
-/// of the channel type C, and how many answers it has given.
+/// of the channel, and how many answers it has given. Its arithmetic is a value, so that the modulus may be known
+/// by the type C or only at run time.
 pub struct Lane<C: Channel> {
+    arithmetic: C,
     set: Moduli,
     channel: usize,
     registers: [u32; 16],
     scratch: [u32; 8],
     words: Vec<u32>,
     answers: u64,
-    kind: PhantomData<C>,
 }
 
 impl<C: Channel> Drop for Lane<C> {
     fn drop(self) {
         let Lane {
+            arithmetic: _,
             set: _,
             channel: _,
             registers: _,
             scratch: _,
             words: _,
             answers: _,
-            kind: _,
         } = self;
     }
 }
@@ -52,29 +53,31 @@ impl<C: Channel> Model for Lane<C> {
       answers = lane.answers;
     } };
 
-    ghost invariant = { λ lane. IsConsistent C.MODULUS (set_of lane.set) lane.channel lane.registers lane.scratch lane.words.items };
+    ghost invariant = { λ lane. IsConsistent (C.modulus lane.arithmetic) (set_of lane.set) lane.channel lane.registers lane.scratch lane.words.items };
 }
 
 impl<C: Channel> Lane<C> {
-    /// The lane of a channel of the set: 0 in registers and scratch places, the residues of `start` in the words.
+    /// The lane of a channel of the set, which computes by the arithmetic of its modulus: 0 in registers and scratch
+    /// places, the residues of `start` in the words. AllocError where memory runs out.
     pub fn make(
         alloc: Global,
+        arithmetic: C,
         set: &Moduli,
         channel: usize,
         start: &[i128],
     ) -> Result<Lane<C>, AllocError>
         requires channel { channel < length (set_of set.now).moduli }
-        requires modulus { slice_index (set_of set.now).moduli channel ≡ C.MODULUS }
+        requires modulus { slice_index (set_of set.now).moduli channel ≡ C.modulus arithmetic }
         ensures { IfOk result (λ lane. lane ≡ lane_at_start (set_of set.now) start.now channel) }
     {
         Ok(Lane {
+            arithmetic,
             set: *set,
             channel,
             registers: [0; 16],
             scratch: [0; 8],
-            words: residues_of::<C>(alloc, start)?,
+            words: residues_of(alloc, arithmetic.modulus(), start)?,
             answers: 0,
-            kind: PhantomData,
         })
     }
 
@@ -97,7 +100,7 @@ impl<C: Channel> Lane<C> {
     pub fn held(&self, place: Place) -> u32
         requires { HasPlace self.now place }
         ensures value { result ≡ held_in self.now place }
-        ensures below { result < C.MODULUS }
+        ensures below { result < modulus_of self.now }
     {
         match place {
             Place::Reg(n) => self.registers[usize::from(n)],
@@ -113,21 +116,26 @@ impl<C: Channel> Lane<C> {
         self.answers
     }
 
-    /// The modulus of the channel, which is that of its type.
+    /// The arithmetic of the channel.
+    fn arithmetic(&self) -> C
+        ensures { C.modulus result ≡ modulus_of self.now }
+    {
+        self.arithmetic
+    }
+
+    /// The modulus of the channel.
     fn modulus(&self) -> u32
-        ensures of_set { result ≡ modulus_of self.now }
-        ensures of_type { result ≡ C.MODULUS }
+        ensures value { result ≡ modulus_of self.now }
         ensures positive { 0 < result }
     {
-        let _ = &self.set;
-        C::modulus()
+        self.arithmetic().modulus()
     }
 
     /// The answer to an operation: its value, or the fault that the book has in its place.
     fn answer(&self, op: &MicroOp, faults: &Faults) -> u32
         requires { CanPerform self.now op.now }
         ensures value { result ≡ answer_of faults.now op.now self.now }
-        ensures below { result < C.MODULUS }
+        ensures below { result < modulus_of self.now }
     {
         match faults.answer(self.channel, self.answers) {
             Some(fault) => fault % self.modulus(),
@@ -139,22 +147,22 @@ impl<C: Channel> Lane<C> {
     fn value(&self, op: &MicroOp) -> u32
         requires { CanPerform self.now op.now }
         ensures value { result ≡ value_of self.now op.now }
-        ensures below { result < C.MODULUS }
+        ensures below { result < modulus_of self.now }
     {
-        let modulus = self.modulus();
+        let arithmetic = self.arithmetic();
         match *op {
-            MicroOp::Put { value, .. } => residue_of(value, modulus),
+            MicroOp::Put { value, .. } => residue_of(value, arithmetic.modulus()),
             MicroOp::Copy { from, .. } => self.held(from),
-            MicroOp::Add { left, right, .. } => C::add(self.held(left), self.held(right)),
-            MicroOp::Sub { left, right, .. } => C::sub(self.held(left), self.held(right)),
-            MicroOp::Mul { left, right, .. } => C::mul(self.held(left), self.held(right)),
+            MicroOp::Add { left, right, .. } => arithmetic.add(self.held(left), self.held(right)),
+            MicroOp::Sub { left, right, .. } => arithmetic.sub(self.held(left), self.held(right)),
+            MicroOp::Mul { left, right, .. } => arithmetic.mul(self.held(left), self.held(right)),
             MicroOp::MulAdd {
                 left,
                 right,
                 plus,
                 ..
-            } => C::mul_add(self.held(left), self.held(right), self.held(plus)),
-            MicroOp::Neg { from, .. } => C::neg(self.held(from)),
+            } => arithmetic.mul_add(self.held(left), self.held(right), self.held(plus)),
+            MicroOp::Neg { from, .. } => arithmetic.neg(self.held(from)),
             MicroOp::Unscale {
                 from,
                 channel,
@@ -169,22 +177,24 @@ impl<C: Channel> Lane<C> {
     /// What an Unscale by channel s makes of a residue here: the residue less `take`, divided by the modulus
     /// of s; in s itself `give`.
     fn unscaled_residue(&self, x: u32, s: usize, take: u32, give: u32) -> u32
-        requires residue { x < C.MODULUS }
+        requires residue { x < modulus_of self.now }
         requires channel { s < length self.now.set.moduli }
         ensures value { result ≡ residue (unscaled_value self.now x s take give) (modulus_of self.now) }
-        ensures below { result < C.MODULUS }
+        ensures below { result < modulus_of self.now }
     {
+        let modulus = self.arithmetic.modulus();
         if s == self.channel {
-            give % self.modulus()
+            give % modulus
         } else {
-            C::unscale(x, take % self.modulus(), self.set.inverse(s, self.channel))
+            let inverse = self.set.inverse(s, self.channel);
+            self.arithmetic.unscale(x, take % modulus, inverse)
         }
     }
 
     /// Puts a residue into a place.
     fn write(&mut self, to: Place, x: u32)
         requires place { HasPlace self.old to }
-        requires below { x < C.MODULUS }
+        requires below { x < modulus_of self.old }
         ensures { self.new ≡ with_held self.old to x }
     {
         match to {
@@ -195,13 +205,14 @@ impl<C: Channel> Lane<C> {
     }
 }
 
-/// The residues of integers, one for each.
-fn residues_of<C: Channel>(alloc: Global, integers: &[i128]) -> Result<Vec<u32>, AllocError>
-    ensures { IfOk result (λ residues. residues.items ≡ map (λ x. residue x C.MODULUS) integers.now) }
+/// The residues of integers, one for each. AllocError where memory runs out.
+fn residues_of(alloc: Global, modulus: u32, integers: &[i128]) -> Result<Vec<u32>, AllocError>
+    requires { 0 < modulus }
+    ensures { IfOk result (λ residues. residues.items ≡ map (λ x. residue x modulus) integers.now) }
 {
     let mut residues = Vec::with_capacity(alloc, integers.len())?;
     for x in integers {
-        residues.push(residue_of(*x, C::modulus()))?;
+        residues.push(residue_of(*x, modulus))?;
     }
     Ok(residues)
 }

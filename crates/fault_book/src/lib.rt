@@ -2,7 +2,7 @@
 //!
 //! A fault is an answer of a channel, told by its number, and the value that stands in its place. In come
 //! entries, out goes the value for an answer, where there is one. The crate stands on nothing here; the
-//! lanes ask it at each answer.
+//! lanes ask it at each answer. Its tests are in `channel_tests`.
 #![tactic(auto)]
 
 mod faults;

@@ -1,6 +1,6 @@
 ghost use Rattle.std.specs.Prelude.{◌≡◌, ℕ, ◌-◌, ◌<◌, ◌≤◌, ◌^◌, List, IfOk, drop, length, slice_set};
 ghost use Rattle.moduli_sets.specs.Moduli.{set_of};
-ghost use Rattle.channel_lane.specs.Lane.{LaneState, CanPerform, HasPlace, answer_of, held_in, lane_after};
+ghost use Rattle.channel_lane.specs.Lane.{LaneState, CanPerform, HasPlace, answer_of, held_in, lane_after, modulus_of};
 ghost use Rattle.lane_bank.specs.Bank.{lane_at, lanes_at_start};
 
 use channel_alu::{MicroOp, Place};
@@ -11,8 +11,8 @@ use std::alloc::{AllocError, Global};
 /// The lanes of consecutive channels of a set. Lane number i is channel `first + i` of the set that the bank was
 /// made with; faults and the channel of an Unscale go by the set's numbers.
 pub trait Bank: Sized + Drop {
-    /// The moduli of the lanes, in order.
-    ghost MODULI: { List ℕ };
+    /// The moduli for which a bank can be made, one for each lane.
+    ghost fits: { List ℕ → Type 0 };
 
     /// The lanes, in order.
     ghost lanes_of: { Self → List LaneState };
@@ -20,7 +20,7 @@ pub trait Bank: Sized + Drop {
     /// A bank for the channels of the set from number `first` on. Registers and scratch places hold 0, the data
     /// words the residues of `start`.
     fn make(alloc: Global, set: &Moduli, first: usize, start: &[i128]) -> Result<Self, AllocError>
-        requires { drop first (set_of set.now).moduli ≡ MODULI }
+        requires { fits (drop first (set_of set.now).moduli) }
         ensures { IfOk result (λ bank. lanes_of bank ≡ lanes_at_start (set_of set.now) first start.now) };
 
     /// The number of lanes, at most 12.
@@ -42,7 +42,8 @@ pub trait Bank: Sized + Drop {
     fn held(&self, i: usize, place: Place) -> u32
         requires lane { i < length (lanes_of self.now) }
         requires place { HasPlace (lane_at (lanes_of self.now) i) place }
-        ensures { result ≡ held_in (lane_at (lanes_of self.now) i) place };
+        ensures value { result ≡ held_in (lane_at (lanes_of self.now) i) place }
+        ensures below { result < modulus_of (lane_at (lanes_of self.now) i) };
 
     /// How many answers lane i has given.
     fn answered(&self, i: usize) -> u64

@@ -1,9 +1,9 @@
 ghost use Rattle.std.specs.Prelude.{◌≡◌, ℕ, ◌≤◌, [], ◌∷◌, IfOk, length};
 ghost use Rattle.channel_lane.specs.Lane.{LaneState};
-ghost use Rattle.lane_bank.specs.Bank.{lanes_at_start};
+ghost use Rattle.lane_bank.specs.Bank.{BeginsWith, lanes_at_start};
 
 use crate::Bank;
-use channel_alu::{Channel, MicroOp, Place};
+use channel_alu::{Channel, FixedChannel, MicroOp, Place};
 use channel_lane::Lane;
 use fault_book::Faults;
 use moduli_sets::Moduli;
@@ -22,7 +22,7 @@ pub struct Cons<C: Channel, T: Bank> {
 }
 
 impl Bank for Nil {
-    ghost MODULI = { [] };
+    ghost fits = { λ moduli. moduli ≡ [] };
 
     ghost lanes_of = { λ _. [] };
 
@@ -59,15 +59,15 @@ impl Bank for Nil {
     }
 }
 
-impl<C: Channel, T: Bank> Bank for Cons<C, T> {
-    ghost MODULI = { C.MODULUS ∷ T.MODULI };
+impl<C: FixedChannel, T: Bank> Bank for Cons<C, T> {
+    ghost fits = { BeginsWith C.MODULUS T.fits };
 
     ghost lanes_of = { λ bank. bank.lane ∷ T.lanes_of bank.rest };
 
     fn make(alloc: Global, set: &Moduli, first: usize, start: &[i128]) -> Result<Self, AllocError> {
         set.rules();
         Ok(Cons {
-            lane: Lane::make(alloc, set, first, start)?,
+            lane: Lane::make(alloc, C::new(), set, first, start)?,
             rest: T::make(alloc, set, first + 1, start)?,
         })
     }

@@ -5,8 +5,8 @@ use Rattle.number_theory.specs.Residue.{residue}
 use Rattle.channel_lane.proofs.lane.residues_of.Goals as goal
 
 pub loop-x-preserved : goal.loop-x-preserved
-loop-x-preserved g c = grind (arith, common_steps)
+loop-x-preserved c = grind (arith, common_steps)
 
 pub returns : goal.returns
-returns g c =
-    c.loop-x.invariant ∙ ap (map (λ x. residue x g.C.Channel.MODULUS)) (take_all c.loop-x.x-index c.args.integers.now c.loop-x-test.false)
+returns c =
+    c.loop-x.invariant ∙ ap (map (λ x. residue x c.args.modulus)) (take_all c.loop-x.x-index c.args.integers.now c.loop-x-test.false)

@@ -8,7 +8,7 @@ pub returns-in-Some-clause-value : goal.returns-in-Some-clause-value
 returns-in-Some-clause-value g c =
     let asked = ap (λ (lane : LaneState). fault_at c.args.faults.now lane.channel lane.answers) c.self.view_is in
     let found : Some c.in-Some.fault ≡ fault_at c.args.faults.now c.args.self.now.channel c.args.self.now.answers = cc in
-    ap (λ m. c.in-Some.fault % m) c.modulus.ensures.of_set ∙ answer_of-fault c.args.faults.now c.args.op.now c.args.self.now c.in-Some.fault found
+    ap (λ m. c.in-Some.fault % m) c.modulus.ensures.value ∙ answer_of-fault c.args.faults.now c.args.op.now c.args.self.now c.in-Some.fault found
 
 pub returns-in-None-clause-value : goal.returns-in-None-clause-value
 returns-in-None-clause-value g c =

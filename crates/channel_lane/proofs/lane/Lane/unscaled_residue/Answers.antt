@@ -8,4 +8,4 @@ pub returns-else-s-self-clause-value : goal.returns-else-s-self-clause-value
 returns-else-s-self-clause-value g c =
     let is_value = λ (lane : LaneState). c.unscale.result ≡ residue (unscaled_value lane c.args.x c.args.s c.args.take c.args.give) (modulus_of lane) in
     subst is_value c.self.view_is
-    (unscale_same _ _ _ _ _ _ _ _ _ _ _ c.unscale.ensures c.inverse.ensures.value c.modulus-else-s-self.ensures.of_type c.self.invariant.modulus_is (omega arith) c.if-s-self.false)
+    (unscale_same _ _ _ _ _ _ _ _ _ _ _ c.unscale.ensures c.inverse-inverse.ensures.value c.modulus-modulus.ensures.value c.self.invariant.modulus_is (omega arith) c.if-s-self.false)

@@ -3,7 +3,7 @@ use Rattle.moduli_sets.specs.Name.{set_of_name}
 use Rattle.channel_lane.specs.Lane.{LaneState, CanPerform}
 use Rattle.lane_bank.specs.Bank.{lanes_at_start}
 use Rattle.lane_bank.proofs.BankLemmas.{All-lanes_at_start}
-use Rattle.arithmetic_rows.proofs.banks.performs.Goals as goal
+use Rattle.channel_tests.proofs.banks.performs.Goals as goal
 
 pub perform_in_all-found-requires-clause-can : goal.perform_in_all-found-requires-clause-can
 perform_in_all-found-requires-clause-can g c =

@@ -1,9 +1,8 @@
-ghost use Rattle.std.specs.Prelude.{◌≡◌};
 ghost use Rattle.moduli_sets.specs.declared.set_name.SetName.TheVariants.{Pocket, Desk, Hall};
 ghost use Rattle.moduli_sets.specs.Name.{set_of_name};
 
+use crate::{Bank, Cons, Nil};
 use channel_alu::{Ones, Plain, Plus, Power};
-use lane_bank::{Bank, Cons, Nil};
 
 /// The bank of the set `pocket`.
 pub type PocketBank = Cons<
@@ -26,9 +25,9 @@ pub type HallBank = Cons<
     Cons<Plain<32713>, Cons<Plain<32717>, Cons<Plain<32719>, Cons<Plain<32749>, Redundant<15>>>>>,
 >;
 
-/// The lanes of each bank have the moduli of its set, in their order, as `Bank::make` asks.
+/// Each bank fits the moduli of its set, as `Bank::make` asks.
 pub fn banks_fit_their_sets()
-    ensures pocket { ⟦<PocketBank as Bank>⟧.MODULI ≡ (set_of_name Pocket).moduli }
-    ensures desk { ⟦<DeskBank as Bank>⟧.MODULI ≡ (set_of_name Desk).moduli }
-    ensures hall { ⟦<HallBank as Bank>⟧.MODULI ≡ (set_of_name Hall).moduli }
+    ensures pocket { ⟦<PocketBank as Bank>⟧.fits (set_of_name Pocket).moduli }
+    ensures desk { ⟦<DeskBank as Bank>⟧.fits (set_of_name Desk).moduli }
+    ensures hall { ⟦<HallBank as Bank>⟧.fits (set_of_name Hall).moduli }
 {}

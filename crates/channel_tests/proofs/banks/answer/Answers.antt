@@ -1,5 +1,5 @@
 use Rattle.lane_bank.specs.Bank.{lane_at}
-use Rattle.arithmetic_rows.proofs.banks.answer.Goals as goal
+use Rattle.channel_tests.proofs.banks.answer.Goals as goal
 
 pub perform-requires-clause-can : goal.perform-requires-clause-can
 perform-requires-clause-can g c = c.requires (lane_at (g.B.Bank.lanes_of c.args.bank.now) c.args.i)

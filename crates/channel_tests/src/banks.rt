@@ -3,11 +3,9 @@ ghost use Rattle.moduli_sets.specs.Name.{set_of_name};
 ghost use Rattle.channel_lane.specs.Lane.{LaneState, CanPerform, lane_at_start};
 
 use channel_alu::{MicroOp, Place, Plain, Plus, Power};
-use channel_lane::laws_of_lanes;
 use fault_book::Faults;
-use lane_bank::{Bank, Cons, Nil, lanes_of_new_banks, perform_in_all};
+use lane_bank::{Bank, Cons, Nil, PocketBank, perform_in_all};
 use moduli_sets::{Moduli, SetName, Vector};
-use set_banks::{PocketBank, banks_fit_their_sets};
 use std::alloc::{AllocError, Global};
 use std::test::Fail;
 
@@ -54,7 +52,7 @@ fn performs<B: Bank>(
     column: &[u32],
     held: &[(u32, u64)],
 ) -> Result<bool, AllocError>
-    requires moduli { (set_of_name name).moduli ≡ B.MODULI }
+    requires moduli { B.fits (set_of_name name).moduli }
     requires can { (channel : ℕ)
         → channel < length (set_of_name name).moduli
         → CanPerform (lane_at_start (set_of_name name) start.now channel) op.now }
@@ -73,9 +71,6 @@ fn performs<B: Bank>(
 
 #[test]
 fn banks(rt: HostRuntime) -> Result<(), Fail> {
-    laws_of_lanes();
-    lanes_of_new_banks();
-    banks_fit_their_sets();
     // (-42 - 10) / 13 is -4
     let divide = MicroOp::Unscale {
         to: TO,

@@ -1,21 +1,22 @@
 ghost use Rattle.std.specs.Prelude.{◌<◌, ◌≤◌};
 
-use channel_alu::{Channel, Ones, Plain, Plus, Power};
+use channel_alu::{Channel, FixedChannel, Ones, Plain, Plus, Power};
 
 /// The modulus of a channel, and then a + b, a - b, a * b, -a, a * b + c and (a - b) * c in it.
-fn operations<C: Channel>(a: u32, b: u32, c: u32) -> [u32; 7]
+fn operations<C: FixedChannel>(a: u32, b: u32, c: u32) -> [u32; 7]
     requires first { a < C.MODULUS }
     requires second { b < C.MODULUS }
     requires third { c < C.MODULUS }
 {
+    let channel = C::new();
     [
-        C::modulus(),
-        C::add(a, b),
-        C::sub(a, b),
-        C::mul(a, b),
-        C::neg(a),
-        C::mul_add(a, b, c),
-        C::unscale(a, b, c),
+        channel.modulus(),
+        channel.add(a, b),
+        channel.sub(a, b),
+        channel.mul(a, b),
+        channel.neg(a),
+        channel.mul_add(a, b, c),
+        channel.unscale(a, b, c),
     ]
 }
 
@@ -39,8 +40,8 @@ fn remainders(modulus: u32, a: u32, b: u32, c: u32) -> [u32; 7]
 }
 
 /// Whether the operations of a channel are the remainders at all its residues.
-fn are_remainders<C: Channel>() -> bool {
-    let modulus = C::modulus();
+fn are_remainders<C: FixedChannel>() -> bool {
+    let modulus = C::new().modulus();
     for a in 0..modulus {
         for b in 0..modulus {
             for c in 0..modulus {
