@@ -3,12 +3,14 @@ ghost use Rattle.plain_text.specs.Lines.{line_at};
 ghost use Rattle.source_lexer.specs.declared.lexer.LexFault.TheVariants.{NoMemory};
 ghost use Rattle.source_lexer.specs.declared.token.Token.{Token};
 ghost use Rattle.source_lexer.specs.declared.token.TokenKind.TheVariants.{Number};
+ghost use Rattle.source_lexer.specs.Placed.{IsBefore, IsPlaced};
 ghost use Rattle.source_lexer.specs.Prefixes.{IsPrefixToken};
 ghost use Rattle.source_lexer.specs.Scan.{IsFirstFault, IsShort, ScanEnd, Scans, greatest_literal, whole};
 ghost use Rattle.source_lexer.specs.Steps.{FailsNext, GoesOn};
 ghost use Rattle.source_lexer.specs.Tokens.{IsToken};
 ghost use Rattle.std.specs.Bool.{MatchBool};
-ghost use Rattle.std.specs.Prelude.{List, MatchResult, ◌<◌, ◌≡◌, ◌≤◌, ℕ, length};
+ghost use Rattle.std.specs.List.{All, AllPairs};
+ghost use Rattle.std.specs.Prelude.{IfOk, List, MatchResult, ◌<◌, ◌≡◌, ◌≤◌, ℕ, length};
 
 use crate::gap::gap_len;
 use crate::symbol::symbol_at;
@@ -93,10 +95,12 @@ fn next_token(text: &[u8], from: usize, line: u32) -> Result<Option<Token>, LexF
     }))
 }
 
-/// The tokens of a text, in order. A fault is the first of the text.
+/// The tokens of a text, in order: each lies in the text after the one before. A fault is the first of the text.
 pub fn tokens(alloc: Global, text: &[u8]) -> Result<Vec<Token>, LexFault>
     requires { length text.now ≤ 4294967294 }
-    ensures { MatchResult result (λ found. Scans text.now found.items whole) (IsFirstFault text.now) }
+    ensures scan { MatchResult result (λ found. Scans text.now found.items whole) (IsFirstFault text.now) }
+    ensures slices { IfOk result (λ found. All (IsPlaced text.now) found.items) }
+    ensures in_order { IfOk result (λ found. AllPairs IsBefore found.items) }
 {
     let mut found = Vec::new(alloc);
     let mut place = 0;
