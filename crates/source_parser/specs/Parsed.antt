@@ -2,6 +2,7 @@
 use Rattle.std.specs.Prelude.{◌≡◌, ℕ, ◌≤◌, List, length, Result, Ok, Err}
 use Rattle.source_lexer.specs.declared.token.Token.{Token}
 use Rattle.source_tree.specs.declared.declaration.Program.{Program}
+use Rattle.source_parser.specs.Limits.{depth_limit, weight_limit}
 use Rattle.source_parser.specs.declared.fault.ParseFault.{ParseFault}
 use Rattle.source_parser.specs.declared.fault.ParseFault.TheVariants.{Stops, Deep, NoMemory}
 use Rattle.source_parser.specs.Terminals.{terminals_of}
@@ -9,7 +10,7 @@ use Rattle.source_parser.specs.Grammar.{Spells}
 
 -- the tokens spell the program, within the limits of nesting
 abbrev pub IsSpelled : List ℕ → List Token → Program → Type 0
-IsSpelled text tokens program = Spells 64 200 (terminals_of text tokens) program
+IsSpelled text tokens program = Spells depth_limit weight_limit (terminals_of text tokens) program
 
 -- the tokens spell no program within the limits of nesting
 abbrev pub SpellsNothing : List ℕ → List Token → Type 0

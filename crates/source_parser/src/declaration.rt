@@ -1,5 +1,6 @@
 ghost use Rattle.std.specs.Prelude.{◌≤◌, ◌∷◌, length};
 ghost use Rattle.source_lexer.specs.declared.token.TokenKind.TheVariants.{Array as ArrayToken, Proc as ProcToken, Var as VarToken};
+ghost use Rattle.source_parser.specs.Limits.{depth_limit, weight_limit};
 ghost use Rattle.source_parser.specs.Grammar.{ReadsAll, ReadsBound, ReadsDeclaration, ReadsListed, ReadsLocal, ReadsParam, ReadsRange};
 ghost use Rattle.source_parser.specs.Terminals.{fixed};
 ghost use Rattle.source_parser.specs.Prefixes.{Anything, BeginsNoDeclaration, Consumes, ConsumesNext, NotFixed, Parses, ParsesNext};
@@ -17,7 +18,7 @@ pub const DEPTH_LIMIT: usize = 64;
 
 /// Declarations, as many as stand there.
 pub fn declarations(alloc: Global, reader: &mut Reader<'_>) -> Result<Items<Declaration>, Fault>
-    ensures value { Parses (ReadsAll (ReadsDeclaration 64 200)) BeginsNoDeclaration reader.old result reader.new }
+    ensures value { Parses (ReadsAll (ReadsDeclaration depth_limit weight_limit)) BeginsNoDeclaration reader.old result reader.new }
     ensures shorter { length reader.new ≤ length reader.old }
 {
     let mut found = Items::new(alloc);
@@ -29,7 +30,7 @@ pub fn declarations(alloc: Global, reader: &mut Reader<'_>) -> Result<Items<Decl
 
 /// A declaration, where one begins.
 fn declaration(alloc: Global, reader: &mut Reader<'_>) -> Result<Option<Declaration>, Fault>
-    ensures value { ParsesNext (ReadsDeclaration 64 200) BeginsNoDeclaration reader.old result reader.new }
+    ensures value { ParsesNext (ReadsDeclaration depth_limit weight_limit) BeginsNoDeclaration reader.old result reader.new }
     ensures shorter { ConsumesNext reader.old result reader.new }
 {
     if let Some(line) = reader.take(TokenKind::Var) {
@@ -46,7 +47,8 @@ fn declaration(alloc: Global, reader: &mut Reader<'_>) -> Result<Option<Declarat
 
 /// After `var`: `name: range;`
 fn variable(alloc: Global, reader: &mut Reader<'_>, line: u32) -> Result<Declaration, Fault>
-    ensures value { Parses (λ terminals. ReadsDeclaration 64 200 (fixed VarToken line ∷ terminals)) Anything reader.old result reader.new }
+    ensures value { Parses (λ terminals. ReadsDeclaration depth_limit weight_limit (fixed VarToken line ∷ terminals))
+        Anything reader.old result reader.new }
     ensures shorter { Consumes reader.old result reader.new }
 {
     let Param { name, range } = param(alloc, reader)?;
@@ -56,7 +58,8 @@ fn variable(alloc: Global, reader: &mut Reader<'_>, line: u32) -> Result<Declara
 
 /// After `array`: `name[length]: range;`
 fn array(alloc: Global, reader: &mut Reader<'_>, line: u32) -> Result<Declaration, Fault>
-    ensures value { Parses (λ terminals. ReadsDeclaration 64 200 (fixed ArrayToken line ∷ terminals)) Anything reader.old result reader.new }
+    ensures value { Parses (λ terminals. ReadsDeclaration depth_limit weight_limit (fixed ArrayToken line ∷ terminals))
+        Anything reader.old result reader.new }
     ensures shorter { Consumes reader.old result reader.new }
 {
     let name = reader.expect_name(alloc)?;
@@ -76,7 +79,8 @@ fn array(alloc: Global, reader: &mut Reader<'_>, line: u32) -> Result<Declaratio
 
 /// After `proc`: `name(params) locals do statements end`.
 fn procedure(alloc: Global, reader: &mut Reader<'_>, line: u32) -> Result<Declaration, Fault>
-    ensures value { Parses (λ terminals. ReadsDeclaration 64 200 (fixed ProcToken line ∷ terminals)) Anything reader.old result reader.new }
+    ensures value { Parses (λ terminals. ReadsDeclaration depth_limit weight_limit (fixed ProcToken line ∷ terminals))
+        Anything reader.old result reader.new }
     ensures shorter { Consumes reader.old result reader.new }
 {
     let name = reader.expect_name(alloc)?;

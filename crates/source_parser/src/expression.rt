@@ -1,4 +1,5 @@
 ghost use Rattle.std.specs.Prelude.{◌≡◌, ◌+◌, ◌≤◌, ◌∷◌, IfOk, OnOk, length};
+ghost use Rattle.source_parser.specs.Limits.{weight_limit};
 ghost use Rattle.source_parser.specs.Grammar.{factor, term, sum, weight, ReadsWithin, ReadsOutermost};
 ghost use Rattle.source_parser.specs.Terminals.{identifier};
 ghost use Rattle.source_parser.specs.Prefixes.{Consumes, ConsumesNext, Ends, IsFixed, Parses, TakesOperator, TakesWeighted};
@@ -16,7 +17,7 @@ const WEIGHT_LIMIT: usize = 200;
 
 /// An expression that isn't inside another.
 pub fn expr(alloc: Global, reader: &mut Reader<'_>) -> Result<Expr, Fault>
-    ensures value { Parses (ReadsOutermost 200) (Ends sum) reader.old result reader.new }
+    ensures value { Parses (ReadsOutermost weight_limit) (Ends sum) reader.old result reader.new }
     ensures shorter { Consumes reader.old result reader.new }
 {
     let mut weight_left = WEIGHT_LIMIT;
@@ -85,7 +86,8 @@ fn variable(
     weight_left: &mut usize,
     name: Name,
 ) -> Result<Expr, Fault>
-    ensures value { Parses (λ terminals. ReadsWithin factor weight_left.old (identifier name ∷ terminals)) (Ends factor) reader.old result reader.new }
+    ensures value { Parses (λ terminals. ReadsWithin factor weight_left.old (identifier name ∷ terminals))
+        (Ends factor) reader.old result reader.new }
     ensures weight_paid { OnOk result (weight reader.old + weight_left.new ≡ weight reader.new + weight_left.old) }
     ensures shorter { length reader.new ≤ length reader.old }
 {

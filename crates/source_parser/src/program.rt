@@ -1,4 +1,5 @@
 ghost use Rattle.std.specs.Prelude.{◌≡◌, ◌≤◌, [], OnOk, length};
+ghost use Rattle.source_parser.specs.Limits.{depth_limit, weight_limit};
 ghost use Rattle.source_parser.specs.Grammar.{ReadsProgram};
 ghost use Rattle.source_parser.specs.Prefixes.{AtEnd, Parses};
 ghost use Rattle.source_lexer.specs.Scan.{Scans, whole};
@@ -33,7 +34,7 @@ pub fn parse(alloc: Global, text: &[u8], tokens: &[Token]) -> Result<Program, Pa
 
 /// Declarations, and then statements up to the end.
 fn program(alloc: Global, reader: &mut Reader<'_>) -> Result<Program, Fault>
-    ensures value { Parses (ReadsProgram 64 200) AtEnd reader.old result reader.new }
+    ensures value { Parses (ReadsProgram depth_limit weight_limit) AtEnd reader.old result reader.new }
     ensures whole { OnOk result (reader.new ≡ []) }
     ensures shorter { length reader.new ≤ length reader.old }
 {

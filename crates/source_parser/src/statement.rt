@@ -1,5 +1,6 @@
 ghost use Rattle.std.specs.Prelude.{ℕ, ◌+◌, ◌≤◌, ◌∷◌, length};
 ghost use Rattle.source_lexer.specs.declared.token.TokenKind.TheVariants.{Becomes as BecomesToken, Do as DoToken, End as EndToken, For as ForToken, If as IfToken, LeftBracket, Limit as LimitToken, Print as PrintToken, Read as ReadToken, Semicolon as SemicolonToken, Then as ThenToken, While as WhileToken};
+ghost use Rattle.source_parser.specs.Limits.{weight_limit};
 ghost use Rattle.source_parser.specs.Grammar.{sum, ReadsCondition, ReadsElse, ReadsListed, ReadsOutermost, ReadsPlace, ReadsStatement, ReadsStatements};
 ghost use Rattle.source_parser.specs.Terminals.{fixed, identifier};
 ghost use Rattle.source_parser.specs.Prefixes.{Anything, BeginsNoStatement, Closed, Consumes, ConsumesNext, Ends, ExpectsComparison, NotFixed, ReadsBounds, ReadsBranches, ReadsName, ReadsLiteral, Parses, ParsesNext};
@@ -19,7 +20,7 @@ pub fn statements(
     reader: &mut Reader<'_>,
     depth: usize,
 ) -> Result<Items<Statement>, Fault>
-    ensures value { Parses (ReadsStatements 200 depth) BeginsNoStatement reader.old result reader.new }
+    ensures value { Parses (ReadsStatements weight_limit depth) BeginsNoStatement reader.old result reader.new }
     ensures shorter { length reader.new ≤ length reader.old }
 {
     let mut found = Items::new(alloc);
@@ -36,7 +37,7 @@ fn statement(
     reader: &mut Reader<'_>,
     depth: usize,
 ) -> Result<Option<Statement>, Fault>
-    ensures value { ParsesNext (ReadsStatement 200 depth) BeginsNoStatement reader.old result reader.new }
+    ensures value { ParsesNext (ReadsStatement weight_limit depth) BeginsNoStatement reader.old result reader.new }
     ensures shorter { ConsumesNext reader.old result reader.new }
 {
     if let Some(line) = reader.take(TokenKind::Print) {
@@ -68,7 +69,8 @@ fn if_statement(
     depth: usize,
     line: u32,
 ) -> Result<Statement, Fault>
-    ensures value { Parses (λ terminals. ReadsStatement 200 (depth + 1) (fixed IfToken line ∷ terminals)) Anything reader.old result reader.new }
+    ensures value { Parses (λ terminals. ReadsStatement weight_limit (depth + 1) (fixed IfToken line ∷ terminals))
+        Anything reader.old result reader.new }
     ensures shorter { Consumes reader.old result reader.new }
 {
     let condition = if_condition(alloc, reader)?;
@@ -88,7 +90,7 @@ fn branches(
     reader: &mut Reader<'_>,
     depth: usize,
 ) -> Result<(Items<Statement>, Items<Statement>), Fault>
-    ensures value { Parses (ReadsBranches 200 depth) Anything reader.old result reader.new }
+    ensures value { Parses (ReadsBranches weight_limit depth) Anything reader.old result reader.new }
     ensures shorter { Consumes reader.old result reader.new }
 {
     let first = statements(alloc, reader, depth)?;
@@ -103,7 +105,7 @@ fn else_part(
     reader: &mut Reader<'_>,
     depth: usize,
 ) -> Result<Items<Statement>, Fault>
-    ensures value { Parses (Closed (ReadsElse 200 depth) EndToken) Anything reader.old result reader.new }
+    ensures value { Parses (Closed (ReadsElse weight_limit depth) EndToken) Anything reader.old result reader.new }
     ensures shorter { Consumes reader.old result reader.new }
 {
     if reader.take(TokenKind::Else).is_none() {
@@ -116,7 +118,7 @@ fn else_part(
 /// `statements end`
 #[cycle(statement)]
 fn body(alloc: Global, reader: &mut Reader<'_>, depth: usize) -> Result<Items<Statement>, Fault>
-    ensures value { Parses (Closed (ReadsStatements 200 depth) EndToken) Anything reader.old result reader.new }
+    ensures value { Parses (Closed (ReadsStatements weight_limit depth) EndToken) Anything reader.old result reader.new }
     ensures shorter { Consumes reader.old result reader.new }
 {
     let found = statements(alloc, reader, depth)?;
@@ -132,7 +134,8 @@ fn for_statement(
     depth: usize,
     line: u32,
 ) -> Result<Statement, Fault>
-    ensures value { Parses (λ terminals. ReadsStatement 200 (depth + 1) (fixed ForToken line ∷ terminals)) Anything reader.old result reader.new }
+    ensures value { Parses (λ terminals. ReadsStatement weight_limit (depth + 1) (fixed ForToken line ∷ terminals))
+        Anything reader.old result reader.new }
     ensures shorter { Consumes reader.old result reader.new }
 {
     let name = counter(alloc, reader)?;
@@ -155,7 +158,8 @@ fn while_statement(
     depth: usize,
     line: u32,
 ) -> Result<Statement, Fault>
-    ensures value { Parses (λ terminals. ReadsStatement 200 (depth + 1) (fixed WhileToken line ∷ terminals)) Anything reader.old result reader.new }
+    ensures value { Parses (λ terminals. ReadsStatement weight_limit (depth + 1) (fixed WhileToken line ∷ terminals))
+        Anything reader.old result reader.new }
     ensures shorter { Consumes reader.old result reader.new }
 {
     let condition = limited_condition(alloc, reader)?;
@@ -171,7 +175,7 @@ fn while_statement(
 
 /// `condition then`
 fn if_condition(alloc: Global, reader: &mut Reader<'_>) -> Result<Condition, Fault>
-    ensures value { Parses (Closed (ReadsCondition 200) ThenToken) Anything reader.old result reader.new }
+    ensures value { Parses (Closed (ReadsCondition weight_limit) ThenToken) Anything reader.old result reader.new }
     ensures shorter { Consumes reader.old result reader.new }
 {
     let condition = condition(alloc, reader)?;
@@ -191,7 +195,7 @@ fn counter(alloc: Global, reader: &mut Reader<'_>) -> Result<Name, Fault>
 
 /// `first to last do`
 fn bounds(alloc: Global, reader: &mut Reader<'_>) -> Result<(Expr, Expr), Fault>
-    ensures value { Parses (ReadsBounds 200) Anything reader.old result reader.new }
+    ensures value { Parses (ReadsBounds weight_limit) Anything reader.old result reader.new }
     ensures shorter { Consumes reader.old result reader.new }
 {
     let first = expr(alloc, reader)?;
@@ -203,7 +207,7 @@ fn bounds(alloc: Global, reader: &mut Reader<'_>) -> Result<(Expr, Expr), Fault>
 
 /// `condition limit`
 fn limited_condition(alloc: Global, reader: &mut Reader<'_>) -> Result<Condition, Fault>
-    ensures value { Parses (Closed (ReadsCondition 200) LimitToken) Anything reader.old result reader.new }
+    ensures value { Parses (Closed (ReadsCondition weight_limit) LimitToken) Anything reader.old result reader.new }
     ensures shorter { Consumes reader.old result reader.new }
 {
     let condition = condition(alloc, reader)?;
@@ -223,7 +227,8 @@ fn limit(reader: &mut Reader<'_>) -> Result<i128, Fault>
 
 /// After `print`: `value;`
 fn print(alloc: Global, reader: &mut Reader<'_>, line: u32) -> Result<Statement, Fault>
-    ensures value { (depth : ℕ) → Parses (λ terminals. ReadsStatement 200 depth (fixed PrintToken line ∷ terminals)) Anything reader.old result reader.new }
+    ensures value { (depth : ℕ) → Parses (λ terminals. ReadsStatement weight_limit depth (fixed PrintToken line ∷ terminals))
+        Anything reader.old result reader.new }
     ensures shorter { Consumes reader.old result reader.new }
 {
     let value = value(alloc, reader)?;
@@ -232,7 +237,7 @@ fn print(alloc: Global, reader: &mut Reader<'_>, line: u32) -> Result<Statement,
 
 /// `value;`
 fn value(alloc: Global, reader: &mut Reader<'_>) -> Result<Expr, Fault>
-    ensures value { Parses (Closed (ReadsOutermost 200) SemicolonToken) Anything reader.old result reader.new }
+    ensures value { Parses (Closed (ReadsOutermost weight_limit) SemicolonToken) Anything reader.old result reader.new }
     ensures shorter { Consumes reader.old result reader.new }
 {
     let value = expr(alloc, reader)?;
@@ -242,7 +247,8 @@ fn value(alloc: Global, reader: &mut Reader<'_>) -> Result<Expr, Fault>
 
 /// After `read`: `place;`
 fn read(alloc: Global, reader: &mut Reader<'_>, line: u32) -> Result<Statement, Fault>
-    ensures value { (depth : ℕ) → Parses (λ terminals. ReadsStatement 200 depth (fixed ReadToken line ∷ terminals)) Anything reader.old result reader.new }
+    ensures value { (depth : ℕ) → Parses (λ terminals. ReadsStatement weight_limit depth (fixed ReadToken line ∷ terminals))
+        Anything reader.old result reader.new }
     ensures shorter { Consumes reader.old result reader.new }
 {
     let name = reader.expect_name(alloc)?;
@@ -257,7 +263,8 @@ fn assignment_or_call(
     reader: &mut Reader<'_>,
     name: Name,
 ) -> Result<Statement, Fault>
-    ensures value { (depth : ℕ) → Parses (λ terminals. ReadsStatement 200 depth (identifier name ∷ terminals)) Anything reader.old result reader.new }
+    ensures value { (depth : ℕ) → Parses (λ terminals. ReadsStatement weight_limit depth (identifier name ∷ terminals))
+        Anything reader.old result reader.new }
     ensures shorter { Consumes reader.old result reader.new }
 {
     let line = name.line;
@@ -278,7 +285,8 @@ fn assignment_or_call(
 
 /// After a name: an index, or nothing.
 fn place(alloc: Global, reader: &mut Reader<'_>, name: Name) -> Result<Place, Fault>
-    ensures value { Parses (λ terminals. ReadsPlace 200 (identifier name ∷ terminals)) (NotFixed LeftBracket) reader.old result reader.new }
+    ensures value { Parses (λ terminals. ReadsPlace weight_limit (identifier name ∷ terminals))
+        (NotFixed LeftBracket) reader.old result reader.new }
     ensures shorter { length reader.new ≤ length reader.old }
 {
     if reader.take(TokenKind::LeftBracket).is_none() {
@@ -291,7 +299,7 @@ fn place(alloc: Global, reader: &mut Reader<'_>, name: Name) -> Result<Place, Fa
 
 /// After `(`: expressions with commas between them, or none, and `)`.
 fn arguments(alloc: Global, reader: &mut Reader<'_>) -> Result<Items<Expr>, Fault>
-    ensures value { Parses (ReadsListed (ReadsOutermost 200)) Anything reader.old result reader.new }
+    ensures value { Parses (ReadsListed (ReadsOutermost weight_limit)) Anything reader.old result reader.new }
     ensures shorter { Consumes reader.old result reader.new }
 {
     let mut found = Items::new(alloc);
@@ -308,7 +316,7 @@ fn arguments(alloc: Global, reader: &mut Reader<'_>) -> Result<Items<Expr>, Faul
 
 /// Two expressions with a comparison between them.
 fn condition(alloc: Global, reader: &mut Reader<'_>) -> Result<Condition, Fault>
-    ensures value { Parses (ReadsCondition 200) (Ends sum) reader.old result reader.new }
+    ensures value { Parses (ReadsCondition weight_limit) (Ends sum) reader.old result reader.new }
     ensures shorter { Consumes reader.old result reader.new }
 {
     let line = reader.line();

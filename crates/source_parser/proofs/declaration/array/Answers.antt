@@ -3,6 +3,7 @@ use Rattle.std.proofs.Common.{arith, rules}
 use Rattle.std.specs.Int.{w128}
 use Rattle.std.proofs.lemmas.Int.{to_z-of_z}
 use mir.Val.{SFits}
+use Rattle.source_parser.specs.Limits.{depth_limit, weight_limit}
 use Rattle.source_parser.proofs.Ranges.{array_prefix}
 use Rattle.source_parser.proofs.declaration.array.Goals as goal
 
@@ -11,7 +12,7 @@ returns-clause-value c =
     let len = c.in_ok-length.length in
     let fits : SFits w128 len = search rules in
     rw (to_z-of_z w128 len fits)
-    (array_prefix 64 200 c.args.line c.args.reader.now c.in_ok-name.name c.expect_name.new.self c.in_ok-expect.field-0 c.expect.new.self len c.expect_number.new.self
+    (array_prefix depth_limit weight_limit c.args.line c.args.reader.now c.in_ok-name.name c.expect_name.new.self c.in_ok-expect.field-0 c.expect.new.self len c.expect_number.new.self
     c.in_ok-expect-2.field-0 c.expect-2.new.self c.in_ok-expect-3.field-0 c.expect-3.new.self c.in_ok-range.range c.range.new.reader c.in_ok-expect-4.field-0 c.expect-4.new.self
     c.in_ok-name.ensures.value c.in_ok-expect.ensures.value c.in_ok-length.ensures.value c.in_ok-expect-2.ensures.value c.in_ok-expect-3.ensures.value c.in_ok-range.ensures.value c.in_ok-expect-4.ensures.value)
 

@@ -1,11 +1,12 @@
 use Rattle.std.proofs.Common.{length}
+use Rattle.source_parser.specs.Limits.{depth_limit, weight_limit}
 use Rattle.source_parser.specs.Grammar.{ReadsAll, ReadsDeclaration}
 use Rattle.source_parser.specs.Prefixes.{BeginsNoDeclaration}
 use Rattle.source_parser.proofs.ListInvariants.{Listing}
 use Rattle.source_parser.proofs.declaration.declarations.Given as goal
 
 abbrev pub invariant-loop-found : goal.invariant-loop-found
-invariant-loop-found l = Listing (ReadsAll (ReadsDeclaration 64 200)) BeginsNoDeclaration l.fn.reader l.found l.reader
+invariant-loop-found l = Listing (ReadsAll (ReadsDeclaration depth_limit weight_limit)) BeginsNoDeclaration l.fn.reader l.found l.reader
 
 abbrev pub decreases-loop-found : goal.decreases-loop-found
 decreases-loop-found l = length l.reader

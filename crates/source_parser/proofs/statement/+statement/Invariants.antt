@@ -1,4 +1,5 @@
 use Rattle.std.proofs.Common.{◌+◌, ◌*◌, length}
+use Rattle.source_parser.specs.Limits.{weight_limit}
 use Rattle.source_parser.specs.Grammar.{ReadsStatements}
 use Rattle.source_parser.specs.Prefixes.{BeginsNoStatement}
 use Rattle.source_parser.proofs.ListInvariants.{Listing}
@@ -29,7 +30,7 @@ abbrev pub decreases-body : goal.decreases-body
 decreases-body l = length l.reader.now * 4 + 3
 
 abbrev pub invariant-statements-loop-found : goal.invariant-statements-loop-found
-invariant-statements-loop-found l = Listing (ReadsStatements 200 l.depth) BeginsNoStatement l.fn.reader l.found l.reader
+invariant-statements-loop-found l = Listing (ReadsStatements weight_limit l.depth) BeginsNoStatement l.fn.reader l.found l.reader
 
 abbrev pub decreases-statements-loop-found : goal.decreases-statements-loop-found
 decreases-statements-loop-found l = length l.reader

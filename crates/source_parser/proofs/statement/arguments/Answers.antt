@@ -2,6 +2,7 @@ use Rattle.std.proofs.Common.{List, [], ◌∷◌, ◌++◌, refl, ap, ◌∙◌
 use Rattle.std.proofs.lemmas.Result.{err_from_is_err_and}
 use Rattle.source_lexer.specs.declared.token.TokenKind.TheVariants as kind
 use Rattle.source_tree.specs.declared.expression.Expr.{Expr}
+use Rattle.source_parser.specs.Limits.{weight_limit}
 use Rattle.source_parser.specs.Grammar.{sum, ReadsListed, ReadsOutermost}
 use Rattle.source_parser.specs.Prefixes.{Anything, Ends}
 use Rattle.source_parser.proofs.Sequences.{Ended, passes, taken, not_taken}
@@ -20,8 +21,8 @@ returns-then-is_some-clause-value c =
     let old = c.args.reader.now in
     let close = taken kind.RightParen old c.take.result c.take.new.self c.take.ensures.value c.if-is_some.ensures in
     rw c.new-found.ensures (
-    listed_empty (ReadsOutermost 200) (Ends sum) closes separates Anything old c.take.new.self close.0 close.1
-    (no_expr_closes 200 close.0 old c.take.new.self close.1)
+    listed_empty (ReadsOutermost weight_limit) (Ends sum) closes separates Anything old c.take.new.self close.0 close.1
+    (no_expr_closes weight_limit close.0 old c.take.new.self close.1)
     )
 
 pub returns-in_err-expr-clause-value : goal.returns-in_err-expr-clause-value
@@ -30,9 +31,9 @@ returns-in_err-expr-clause-value c =
     let open_ = not_taken kind.RightParen old c.take.result c.take.new.self c.take.ensures.value c.if-is_some.ensures in
     let failed = err_from_is_err_and c.from_residual.result c.from_residual.ensures.1 in
     rw (failed.1, failed.2) (
-    passes (ReadsOutermost 200) (Ends sum) c.take.new.self c.expr.new.reader (ReadsListed (ReadsOutermost 200)) Anything old c.expr.new.reader
+    passes (ReadsOutermost weight_limit) (Ends sum) c.take.new.self c.expr.new.reader (ReadsListed (ReadsOutermost weight_limit)) Anything old c.expr.new.reader
     c.in_err-expr.field-0.0 c.in_err-expr.ensures.value
-    (λ none. listed_none (ReadsOutermost 200) (Ends sum) closes separates Anything old open_.1 (rw open_.0 at none))
+    (λ none. listed_none (ReadsOutermost weight_limit) (Ends sum) closes separates Anything old open_.1 (rw open_.0 at none))
     )
 
 pub loop-alloc-init : goal.loop-alloc-init
@@ -41,7 +42,7 @@ loop-alloc-init c =
     let open_ = not_taken kind.RightParen old c.take.result c.take.new.self c.take.ensures.value c.if-is_some.ensures in
     let first = c.in_ok-expr.field-0 in
     let pushed = c.in_ok-push.ensures.ok ∙ ap (λ (found : List Expr). found ++ first ∷ []) c.new-found.ensures in
-    gathering_begins (ReadsOutermost 200) (Ends sum) closes separates old c.expr.new.reader first c.push.new.self open_.1
+    gathering_begins (ReadsOutermost weight_limit) (Ends sum) closes separates old c.expr.new.reader first c.push.new.self open_.1
     (rw open_.0 at c.in_ok-expr.ensures.value) pushed
     (rw open_.0 at c.in_ok-expr.ensures.shorter)
 
@@ -53,9 +54,9 @@ returns-in_err-expr-2-clause-value c =
     let failed = err_from_is_err_and c.from_residual-in_err-expr-2.result c.from_residual-in_err-expr-2.ensures.1 in
     let now = c.expr-in-loop-alloc.new.reader in
     rw (failed.1, failed.2) (
-    passes (ReadsOutermost 200) (Ends sum) behind now (ReadsListed (ReadsOutermost 200)) Anything old now c.in_err-expr-2.field-0.0
+    passes (ReadsOutermost weight_limit) (Ends sum) behind now (ReadsListed (ReadsOutermost weight_limit)) Anything old now c.in_err-expr-2.field-0.0
     c.in_err-expr-2.ensures.value
-    (gathering_fails (ReadsOutermost 200) (Ends sum) closes separates Anything old c.loop-alloc.reader behind c.loop-alloc.found comma.0
+    (gathering_fails (ReadsOutermost weight_limit) (Ends sum) closes separates Anything old c.loop-alloc.reader behind c.loop-alloc.found comma.0
     c.loop-alloc.invariant comma.1)
     )
 
@@ -64,7 +65,7 @@ loop-alloc-preserved c =
     let old = c.args.reader.now in
     let behind = c.take-in-loop-alloc.new.self in
     let comma = taken kind.Comma c.loop-alloc.reader c.take-in-loop-alloc.result behind c.take-in-loop-alloc.ensures.value c.loop-alloc-test.ensures in
-    gathering_goes_on (ReadsOutermost 200) (Ends sum) closes separates old c.loop-alloc.reader behind c.expr-in-loop-alloc.new.reader c.loop-alloc.found
+    gathering_goes_on (ReadsOutermost weight_limit) (Ends sum) closes separates old c.loop-alloc.reader behind c.expr-in-loop-alloc.new.reader c.loop-alloc.found
     c.push-in-loop-alloc.new.self comma.0
     c.in_ok-expr-2.field-0 c.loop-alloc.invariant comma.1 c.in_ok-expr-2.ensures.value c.in_ok-push-2.ensures.ok c.in_ok-expr-2.ensures.shorter
 
@@ -73,6 +74,6 @@ returns-clause-value c =
     let old = c.args.reader.now in
     let ended = not_taken kind.Comma c.loop-alloc.reader c.take-in-loop-alloc.result c.take-in-loop-alloc.new.self c.take-in-loop-alloc.ensures.value
     c.loop-alloc-test.ensures in
-    gathering_ends (ReadsOutermost 200) (Ends sum) closes separates Anything old c.loop-alloc.reader c.expect.new.self c.loop-alloc.found
+    gathering_ends (ReadsOutermost weight_limit) (Ends sum) closes separates Anything old c.loop-alloc.reader c.expect.new.self c.loop-alloc.found
     c.in_ok-expect.field-0 c.loop-alloc.invariant
     (rw ended.0 at c.in_ok-expect.ensures.value)

@@ -1,5 +1,6 @@
 use Rattle.std.proofs.lemmas.Result.{err_from_is_err_and}
 use Rattle.source_lexer.specs.declared.token.TokenKind.TheVariants as kind
+use Rattle.source_parser.specs.Limits.{weight_limit}
 use Rattle.source_parser.specs.Prefixes.{Anything}
 use Rattle.source_parser.proofs.Sequences.{passes, fails, taken, not_taken}
 use Rattle.source_parser.proofs.StatementParts.{AfterName, SemicolonExpr, call_prefix, call_open, assign_prefix, assign_no_becomes, assign_no_value}
@@ -12,8 +13,8 @@ returns-in_err-expect-clause-value c = λ depth.
     let opens = taken kind.LeftParen old c.take.result inside c.take.ensures.value c.if-is_some.ensures in
     let failed = err_from_is_err_and c.from_residual-in_err-expect.result c.from_residual-in_err-expect.ensures.1 in
     rw (failed.1, failed.2) (
-    fails (AfterName 200 depth c.args.name) Anything old c.expect.new.self c.in_err-expect.field-0.0
-    (call_open 200 depth c.args.name old inside opens.0 opens.1 c.arguments.new.reader c.in_ok-arguments.arguments c.in_ok-arguments.ensures.value
+    fails (AfterName weight_limit depth c.args.name) Anything old c.expect.new.self c.in_err-expect.field-0.0
+    (call_open weight_limit depth c.args.name old inside opens.0 opens.1 c.arguments.new.reader c.in_ok-arguments.arguments c.in_ok-arguments.ensures.value
     c.in_err-expect.ensures.value.1)
     )
 
@@ -22,7 +23,7 @@ returns-then-is_some-clause-value c = λ depth.
     let old = c.args.reader.now in
     let inside = c.take.new.self in
     let opens = taken kind.LeftParen old c.take.result inside c.take.ensures.value c.if-is_some.ensures in
-    call_prefix 200 depth c.args.name old inside opens.0 opens.1 c.arguments.new.reader c.expect.new.self c.in_ok-expect.field-0 c.in_ok-arguments.arguments
+    call_prefix weight_limit depth c.args.name old inside opens.0 opens.1 c.arguments.new.reader c.expect.new.self c.in_ok-expect.field-0 c.in_ok-arguments.arguments
     c.in_ok-arguments.ensures.value
     c.in_ok-expect.ensures.value
 
@@ -32,8 +33,8 @@ returns-in_err-expect-2-clause-value c = λ depth.
     let alone = not_taken kind.LeftParen old c.take.result c.take.new.self c.take.ensures.value c.if-is_some.ensures in
     let failed = err_from_is_err_and c.from_residual-in_err-expect-2.result c.from_residual-in_err-expect-2.ensures.1 in
     rw (failed.1, failed.2) (
-    fails (AfterName 200 depth c.args.name) Anything old c.expect-2.new.self c.in_err-expect-2.field-0.0 (
-    assign_no_becomes 200 depth c.args.name old alone.1 c.place.new.reader c.in_ok-place.place (rw alone.0 at c.in_ok-place.ensures.value)
+    fails (AfterName weight_limit depth c.args.name) Anything old c.expect-2.new.self c.in_err-expect-2.field-0.0 (
+    assign_no_becomes weight_limit depth c.args.name old alone.1 c.place.new.reader c.in_ok-place.place (rw alone.0 at c.in_ok-place.ensures.value)
     c.in_err-expect-2.ensures.value.1
     )
     )
@@ -45,9 +46,9 @@ returns-in_err-value-clause-value c = λ depth.
     let behind = c.expect-2.new.self in
     let failed = err_from_is_err_and c.from_residual-in_err-value.result c.from_residual-in_err-value.ensures.1 in
     rw (failed.1, failed.2) (
-    passes (SemicolonExpr 200) Anything behind c.value.new.reader (AfterName 200 depth c.args.name) Anything old c.value.new.reader
+    passes (SemicolonExpr weight_limit) Anything behind c.value.new.reader (AfterName weight_limit depth c.args.name) Anything old c.value.new.reader
     c.in_err-value.field-0.0 c.in_err-value.ensures.value
-    (assign_no_value 200 depth c.args.name old alone.1 c.place.new.reader behind c.in_ok-place.place c.in_ok-expect-2.field-0
+    (assign_no_value weight_limit depth c.args.name old alone.1 c.place.new.reader behind c.in_ok-place.place c.in_ok-expect-2.field-0
     (rw alone.0 at c.in_ok-place.ensures.value) c.in_ok-expect-2.ensures.value)
     )
 
@@ -55,6 +56,6 @@ pub returns-clause-value : goal.returns-clause-value
 returns-clause-value c = λ depth.
     let old = c.args.reader.now in
     let alone = not_taken kind.LeftParen old c.take.result c.take.new.self c.take.ensures.value c.if-is_some.ensures in
-    assign_prefix 200 depth c.args.name old alone.1 c.place.new.reader c.expect-2.new.self c.in_ok-place.place c.in_ok-expect-2.field-0
+    assign_prefix weight_limit depth c.args.name old alone.1 c.place.new.reader c.expect-2.new.self c.in_ok-place.place c.in_ok-expect-2.field-0
     (rw alone.0 at c.in_ok-place.ensures.value)
     c.in_ok-expect-2.ensures.value c.value.new.reader c.in_ok-value.value c.in_ok-value.ensures.value

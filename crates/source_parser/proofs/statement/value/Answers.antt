@@ -1,5 +1,6 @@
 use Rattle.std.proofs.lemmas.Result.{err_from_is_err_and}
 use Rattle.source_lexer.specs.declared.token.TokenKind.TheVariants as kind
+use Rattle.source_parser.specs.Limits.{weight_limit}
 use Rattle.source_parser.specs.Grammar.{sum, ReadsOutermost}
 use Rattle.source_parser.specs.Prefixes.{Anything, Ends}
 use Rattle.source_parser.proofs.Sequences.{passes, fails, closed_prefix, closed_none, closed_missing}
@@ -11,9 +12,9 @@ returns-in_err-value-clause-value c =
     let old = c.args.reader.now in
     let failed = err_from_is_err_and c.from_residual.result c.from_residual.ensures.1 in
     rw (failed.1, failed.2) (
-    passes (ReadsOutermost 200) (Ends sum) old c.expr.new.reader (SemicolonExpr 200) Anything old c.expr.new.reader
+    passes (ReadsOutermost weight_limit) (Ends sum) old c.expr.new.reader (SemicolonExpr weight_limit) Anything old c.expr.new.reader
     c.in_err-value.field-0.0 c.in_err-value.ensures.value
-    (closed_none (ReadsOutermost 200) (Ends sum) kind.Semicolon semicolon_ended Anything old)
+    (closed_none (ReadsOutermost weight_limit) (Ends sum) kind.Semicolon semicolon_ended Anything old)
     )
 
 pub returns-in_err-expect-clause-value : goal.returns-in_err-expect-clause-value
@@ -21,13 +22,13 @@ returns-in_err-expect-clause-value c =
     let old = c.args.reader.now in
     let failed = err_from_is_err_and c.from_residual-in_err-expect.result c.from_residual-in_err-expect.ensures.1 in
     rw (failed.1, failed.2) (
-    fails (SemicolonExpr 200) Anything old c.expect.new.self c.in_err-expect.field-0.0
-    (closed_missing (ReadsOutermost 200) (Ends sum) kind.Semicolon semicolon_ended Anything old c.expr.new.reader c.in_ok-value.value
+    fails (SemicolonExpr weight_limit) Anything old c.expect.new.self c.in_err-expect.field-0.0
+    (closed_missing (ReadsOutermost weight_limit) (Ends sum) kind.Semicolon semicolon_ended Anything old c.expr.new.reader c.in_ok-value.value
     c.in_ok-value.ensures.value c.in_err-expect.ensures.value.1)
     )
 
 pub returns-clause-value : goal.returns-clause-value
 returns-clause-value c =
     let old = c.args.reader.now in
-    closed_prefix (ReadsOutermost 200) (Ends sum) kind.Semicolon semicolon_ended Anything old c.expr.new.reader c.expect.new.self c.in_ok-value.value
+    closed_prefix (ReadsOutermost weight_limit) (Ends sum) kind.Semicolon semicolon_ended Anything old c.expr.new.reader c.expect.new.self c.in_ok-value.value
     c.in_ok-expect.field-0 c.in_ok-value.ensures.value c.in_ok-expect.ensures.value
