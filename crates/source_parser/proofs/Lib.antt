@@ -7,10 +7,13 @@ pub mod JoinLemmas
 pub mod ListInvariants
 pub mod ListLemmas
 pub mod Ranges
+pub mod ReadTexts
 pub mod Sequences
 pub mod Signs
 pub mod StatementParts
 pub mod Statements
 pub mod TakeLemmas
 pub mod Tokens
+pub mod TreeNames
+pub mod TreeNumbers
 pub mod Weights

@@ -1,6 +1,7 @@
 -- What the tokens of a text are reported to be.
 use Rattle.std.specs.Prelude.{◌≡◌, ℕ, ◌≤◌, List, length, Result, Ok, Err}
 use Rattle.source_lexer.specs.declared.token.Token.{Token}
+use Rattle.source_lexer.specs.Scan.{Scans, whole}
 use Rattle.source_tree.specs.declared.declaration.Program.{Program}
 use Rattle.source_parser.specs.Limits.{depth_limit, weight_limit}
 use Rattle.source_parser.specs.declared.fault.ParseFault.{ParseFault}
@@ -23,3 +24,19 @@ IsParsed text tokens (Ok program) = IsSpelled text tokens program × ((other : P
 IsParsed text tokens (Err (Stops place)) = (place ≤ length tokens) × SpellsNothing text tokens
 IsParsed text tokens (Err (Deep place)) = (place ≤ length tokens) × SpellsNothing text tokens
 IsParsed text tokens (Err NoMemory) = Unit {0}
+
+-- ---- the same of the text alone
+-- the text is made of tokens, and they spell the program
+abbrev pub SpellsProgram : List ℕ → Program → Type 0
+SpellsProgram text program = (tokens : List Token) × Scans text tokens whole × IsSpelled text tokens program
+
+-- the text spells no program
+abbrev pub SpellsNoProgram : List ℕ → Type 0
+SpellsNoProgram text = (program : Program) → SpellsProgram text program → ⊥
+
+-- the one program that the text spells, or it spells none, want of memory aside
+abbrev pub IsProgramOf : List ℕ → Result Program ParseFault → Type 0
+IsProgramOf text (Ok program) = SpellsProgram text program × ((other : Program) → SpellsProgram text other → other ≡ program)
+IsProgramOf text (Err (Stops place)) = SpellsNoProgram text
+IsProgramOf text (Err (Deep place)) = SpellsNoProgram text
+IsProgramOf text (Err NoMemory) = Unit {0}

@@ -1,9 +1,11 @@
-ghost use Rattle.std.specs.Prelude.{◌≡◌, ◌≤◌, [], OnOk, length};
+ghost use Rattle.std.specs.List.{All};
+ghost use Rattle.std.specs.Prelude.{◌≡◌, ◌≤◌, ◌≤ℤ◌, [], IfOk, OnOk, length, pos};
 ghost use Rattle.source_parser.specs.Limits.{depth_limit, weight_limit};
 ghost use Rattle.source_parser.specs.Grammar.{ReadsProgram};
 ghost use Rattle.source_parser.specs.Prefixes.{AtEnd, Parses};
+ghost use Rattle.source_tree.specs.Numbers.{program_names, program_numbers};
 ghost use Rattle.source_lexer.specs.Scan.{Scans, whole};
-ghost use Rattle.source_parser.specs.Parsed.{IsParsed};
+ghost use Rattle.source_parser.specs.Parsed.{IsParsed, IsProgramOf};
 
 use crate::declaration::{DEPTH_LIMIT, declarations};
 use crate::fault::{Fault, ParseFault};
@@ -15,9 +17,14 @@ use std::alloc::Global;
 
 /// The program that the tokens of a text spell. Otherwise the first token at fault, want of memory aside; a token
 /// that no program goes on with is reported as that before it is reported as too deep.
+///
+/// No number in the program is below 0, and it declares at most as many names as the text has bytes.
 pub fn parse(alloc: Global, text: &[u8], tokens: &[Token]) -> Result<Program, ParseFault>
     requires { Scans text.now tokens.now whole }
-    ensures { IsParsed text.now tokens.now result }
+    ensures parsed { IsParsed text.now tokens.now result }
+    ensures program { IsProgramOf text.now result }
+    ensures numbers { IfOk result (λ program. All (λ n. pos 0 ≤ℤ n) (program_numbers program)) }
+    ensures names { IfOk result (λ program. program_names program ≤ length text.now) }
 {
     let mut reader = Reader::new(text, tokens);
     let fault = match program(alloc, &mut reader) {
