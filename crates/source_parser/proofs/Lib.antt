@@ -6,12 +6,13 @@ pub mod JoinInvariant
 pub mod JoinLemmas
 pub mod ListInvariants
 pub mod ListLemmas
+pub mod NestedStatements
 pub mod Ranges
 pub mod ReadTexts
 pub mod Sequences
 pub mod Signs
+pub mod StatementLists
 pub mod StatementParts
-pub mod Statements
 pub mod TakeLemmas
 pub mod Tokens
 pub mod TreeNames

@@ -13,12 +13,14 @@ use Rattle.source_parser.proofs.Sequences.{begun_prefix, begun_none, passes, fai
 use Rattle.source_parser.proofs.Sequences.{within_not_taken, identifier_taken, next_told, none_told, next_shorter, closed_prefix, closed_none, closed_missing}
 use Rattle.source_parser.proofs.Sequences.{both_prefix, both_none, both_stops}
 use Rattle.source_parser.proofs.StatementParts.{AfterPrint, AfterRead, AfterName}
-use Rattle.source_parser.proofs.Statements.{AfterIf, AfterFor, AfterWhile, EndElse, EndStatements, if_, for_, while_, nesting_begins, nesting_none}
-use Rattle.source_parser.proofs.Statements.{name_begins, print_begins, read_begins, listing_goes_on, listing_ends, listing_fails}
-use Rattle.source_parser.proofs.Statements.{end_ended, end_prefix, end_missing, else_parses}
-use Rattle.source_parser.proofs.Statements.{ThenCondition, if_no_condition, if_no_branches, if_prefix, else_leads}
-use Rattle.source_parser.proofs.Statements.{Counter, for_no_counter, for_no_bounds, for_no_body, for_prefix}
-use Rattle.source_parser.proofs.Statements.{LimitCondition, DoLiteral, while_no_condition, while_no_limit, while_no_body, while_prefix}
+use Rattle.source_parser.proofs.StatementLists.{EndElse, EndStatements, if_, for_, while_, nesting_begins, nesting_none}
+use Rattle.source_parser.proofs.NestedStatements.{AfterIf, AfterFor, AfterWhile}
+use Rattle.source_parser.proofs.StatementLists.{name_begins, print_begins, read_begins, listing_goes_on, listing_ends, listing_fails}
+use Rattle.source_parser.proofs.StatementLists.{end_ended, end_prefix, end_missing, else_parses}
+use Rattle.source_parser.proofs.StatementLists.{else_leads}
+use Rattle.source_parser.proofs.NestedStatements.{ThenCondition, if_no_condition, if_no_branches, if_prefix}
+use Rattle.source_parser.proofs.NestedStatements.{Counter, for_no_counter, for_no_bounds, for_no_body, for_prefix}
+use Rattle.source_parser.proofs.NestedStatements.{LimitCondition, DoLiteral, while_no_condition, while_no_limit, while_no_body, while_prefix}
 use Rattle.source_parser.proofs.statement.+statement.Goals as goal
 
 -- ---- `if`

@@ -3,7 +3,7 @@ use Rattle.source_parser.specs.Limits.{weight_limit}
 use Rattle.source_parser.specs.Grammar.{sum, ReadsOutermost}
 use Rattle.source_parser.specs.Prefixes.{Anything, Ends, ReadsBounds}
 use Rattle.source_parser.proofs.Sequences.{passes, fails}
-use Rattle.source_parser.proofs.Statements.{bounds_no_first, bounds_no_to, bounds_no_last, bounds_no_do, bounds_prefix}
+use Rattle.source_parser.proofs.NestedStatements.{bounds_no_first, bounds_no_to, bounds_no_last, bounds_no_do, bounds_prefix}
 use Rattle.source_parser.proofs.statement.bounds.Goals as goal
 
 pub returns-in_err-first-clause-value : goal.returns-in_err-first-clause-value

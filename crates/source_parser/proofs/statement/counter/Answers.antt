@@ -3,7 +3,7 @@ use Rattle.source_lexer.specs.declared.token.TokenKind.TheVariants as kind
 use Rattle.source_parser.specs.Prefixes.{Anything, ReadsName}
 use Rattle.source_parser.proofs.FailureLemmas.{identifier_fails}
 use Rattle.source_parser.proofs.Sequences.{fails, closed_prefix, closed_none, closed_missing}
-use Rattle.source_parser.proofs.Statements.{Counter, name_prefix, name_none}
+use Rattle.source_parser.proofs.NestedStatements.{Counter, name_prefix, name_none}
 use Rattle.source_parser.proofs.statement.counter.Goals as goal
 
 pub returns-in_err-name-clause-value : goal.returns-in_err-name-clause-value

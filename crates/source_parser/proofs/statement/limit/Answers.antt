@@ -6,7 +6,7 @@ use mir.Syntax.{w128}
 use Rattle.source_lexer.specs.declared.token.TokenKind.TheVariants as kind
 use Rattle.source_parser.specs.Prefixes.{Anything, ReadsLiteral}
 use Rattle.source_parser.proofs.Sequences.{fails, closed_prefix, closed_none, closed_missing}
-use Rattle.source_parser.proofs.Statements.{DoLiteral, literal_prefix, literal_none}
+use Rattle.source_parser.proofs.NestedStatements.{DoLiteral, literal_prefix, literal_none}
 use Rattle.source_parser.proofs.statement.limit.Goals as goal
 
 pub returns-in_err-limit-clause-value : goal.returns-in_err-limit-clause-value

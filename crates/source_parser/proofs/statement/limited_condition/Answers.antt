@@ -4,7 +4,7 @@ use Rattle.source_parser.specs.Limits.{weight_limit}
 use Rattle.source_parser.specs.Grammar.{sum, ReadsCondition}
 use Rattle.source_parser.specs.Prefixes.{Anything, Ends}
 use Rattle.source_parser.proofs.Sequences.{passes, fails, closed_prefix, closed_none, closed_missing}
-use Rattle.source_parser.proofs.Statements.{LimitCondition, limit_ended}
+use Rattle.source_parser.proofs.NestedStatements.{LimitCondition, limit_ended}
 use Rattle.source_parser.proofs.statement.limited_condition.Goals as goal
 
 pub returns-in_err-condition-clause-value : goal.returns-in_err-condition-clause-value
