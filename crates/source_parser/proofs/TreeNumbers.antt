@@ -1,5 +1,5 @@
 -- The numbers of a tree are those of the terminals that spell it: none is below 0.
-use Rattle.std.proofs.Common.{◌≡◌, ℕ, List, [], ◌∷◌, ◌++◌, map, refl, arith}
+use Rattle.std.proofs.Common.{◌≡◌, ℕ, List, [], ◌∷◌, ◌++◌, map, arith}
 use Rattle.std.specs.Prelude.{ℤ, pos, ◌≤ℤ◌}
 use Rattle.std.specs.List.{All, flat_map}
 use Rattle.std.proofs.lemmas.List.Folds.{flat_map-map}
@@ -19,7 +19,7 @@ use Rattle.source_tree.specs.declared.statement.Statement.{Statement, Assign, Pr
 use Rattle.source_tree.specs.declared.statement.Statement.TheOpen as statement
 use Rattle.source_tree.specs.declared.declaration.Declaration.{Declaration}
 use Rattle.source_tree.specs.declared.declaration.Program.{Program}
-use Rattle.source_parser.specs.Terminals.{Terminal, identifier, literal, fixed, terminal_by, terminal_of, terminals_of}
+use Rattle.source_parser.specs.Terminals.{Terminal, identifier, literal, fixed, terminal_by, terminals_of}
 use Rattle.source_parser.specs.Grammar as grammar
 use Rattle.source_parser.specs.Grammar.{Level, ReadsExpr, ReadsOutermost, ReadsCondition, ReadsPlace, ReadsAll, ReadsCommas, ReadsListed, ReadsStatement, ReadsStatements, ReadsElse, ReadsDeclaration, ReadsProgram}
 
