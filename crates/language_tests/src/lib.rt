@@ -1,4 +1,4 @@
-//! Worked rows of the source language: tests of `source_lexer`, `source_tree` and `source_parser`.
+//! Tests of the language floor: worked rows of `source_lexer`, `source_tree` and `source_parser`.
 //!
 //! A crate with tests is proved twice, so those of the language stand here, above it. Nothing comes in or goes out.
 #![tactic(auto)]

@@ -1,7 +1,7 @@
 use crate::places::PLACES;
 use source_lexer::tokens;
 use source_parser::{ParseFault, parse};
-use source_tree::{Expr, Operator, Program, Statement};
+use source_tree::Program;
 use std::alloc::Global;
 use std::test::Fail;
 
@@ -25,7 +25,7 @@ fn spread(alloc: Global, text: &str) -> Result<String, Fail> {
 }
 
 /// What the tokens of a text spell. No text here is cut by the limit.
-fn parsed(alloc: Global, text: &str) -> Result<Result<Program, ParseFault>, Fail> {
+pub fn parsed(alloc: Global, text: &str) -> Result<Result<Program, ParseFault>, Fail> {
     let text = &text.as_bytes()[..text.len().min(100_000)];
     let tokens = tokens(alloc, text)?;
     Ok(parse(alloc, text, tokens.as_slice()))
@@ -39,54 +39,6 @@ fn reported(alloc: Global, text: &str) -> Result<String, Fail> {
         Err(ParseFault::Deep(place)) => format!(in alloc; "deep {place}")?,
         Err(ParseFault::NoMemory) => format!(in alloc; "no memory")?,
     })
-}
-
-/// Whether this is `1 - 2 - 3` from the left, over three lines, with the lines of its nodes.
-fn is_left_difference(value: &Expr) -> bool {
-    let Expr::Binary {
-        left,
-        operator: Operator::Sub,
-        right,
-        line: 3,
-    } = value
-    else {
-        return false;
-    };
-    matches!(
-        left.get(),
-        Expr::Binary {
-            operator: Operator::Sub,
-            line: 2,
-            ..
-        }
-    ) && matches!(right.get(), Expr::Number { value: 3, line: 3 })
-}
-
-#[test]
-fn trees(rt: HostRuntime) -> Result<(), Fail> {
-    match parsed(rt.alloc(), "print (1)\n- 2\n- 3;\nif 1 < 2 then else end")? {
-        Ok(program) => {
-            assert!(rt; program.declarations.is_empty());
-            match program.statements.get(0) {
-                Some(Statement::Print { value, line: 1 }) => {
-                    assert!(rt; is_left_difference(value));
-                }
-                _ => assert!(rt; false),
-            }
-            match program.statements.get(1) {
-                Some(
-                    Statement::If {
-                        second,
-                        line: 4,
-                        ..
-                    },
-                ) => assert!(rt; second.is_empty()),
-                _ => assert!(rt; false),
-            }
-        }
-        Err(_) => assert!(rt; false),
-    }
-    Ok(())
 }
 
 #[test]

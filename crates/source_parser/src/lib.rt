@@ -2,7 +2,7 @@
 //!
 //! In come a source text and its tokens, out goes the tree that they spell by the grammar of `specs/Grammar.antt`,
 //! or where they stop to be a prefix of any program, or the first token that nests too deep. The crate stands on
-//! `source_lexer` and `source_tree`; the stages of the compiler stand on it.
+//! `source_lexer` and `source_tree`; the stages of the compiler stand on it. Its tests are in `language_tests`.
 #![tactic(auto)]
 
 mod declaration;
