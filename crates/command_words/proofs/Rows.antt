@@ -1,7 +1,7 @@
 -- Worked rows: words, and the jobs that they ask for.
 use Rattle.std.specs.Prelude.{◌≡◌, refl, pos, negsuc, [], ◌∷◌, Some, None, codes, map, replicate}
 use Rattle.moduli_sets.specs.declared.set_name.SetName.TheVariants.{Pocket, Desk, Hall}
-use Rattle.word_options.specs.Operands.{whole_word}
+use Rattle.word_readers.specs.Operands.{whole_word}
 use Rattle.command_words.specs.declared.job.Job.TheVariants.{Run, Decode, Encode, Mean, Set}
 use Rattle.command_words.specs.Words.{job_of_words}
 
@@ -13,22 +13,32 @@ set_row : job_of_words (codes "set" ∷ codes "desk" ∷ []) ≡ Some (Set Desk)
 set_row = refl
 
 -- the least integer in range, and a zero with a sign
-encode_rows : map job_of_words ((codes "encode" ∷ codes "pocket" ∷ codes "-97" ∷ []) ∷ (codes "encode" ∷ codes "pocket" ∷ codes "-0" ∷ []) ∷ []) ≡ Some (Encode Pocket (negsuc 96)) ∷ Some (Encode Pocket (pos 0)) ∷ []
+encode_rows : map job_of_words (
+    (codes "encode" ∷ codes "pocket" ∷ codes "-97" ∷ [])
+    ∷ (codes "encode" ∷ codes "pocket" ∷ codes "-0" ∷ [])
+    ∷ []) ≡ Some (Encode Pocket (negsuc 96)) ∷ Some (Encode Pocket (pos 0)) ∷ []
 encode_rows = refl
 
 -- ten digits for a residue
-decode_rows : map job_of_words ((codes "decode" ∷ codes "pocket" ∷ codes "3" ∷ codes "12" ∷ codes "10" ∷ codes "8" ∷ codes "4" ∷ []) ∷ (codes "decode" ∷ codes "pocket" ∷ codes "3" ∷ codes "12" ∷ codes "10" ∷ codes "8" ∷ codes "0000000004" ∷ []) ∷ []) ≡ replicate 2 (Some (Decode Pocket (3 ∷ 12 ∷ 10 ∷ 8 ∷ 4 ∷ [])))
+decode_rows : map job_of_words (
+    (codes "decode" ∷ codes "pocket" ∷ codes "3" ∷ codes "12" ∷ codes "10" ∷ codes "8" ∷ codes "4" ∷ [])
+    ∷ (codes "decode" ∷ codes "pocket" ∷ codes "3" ∷ codes "12" ∷ codes "10" ∷ codes "8" ∷ codes "0000000004" ∷ [])
+    ∷ []) ≡ replicate 2 (Some (Decode Pocket (3 ∷ 12 ∷ 10 ∷ 8 ∷ 4 ∷ [])))
 decode_rows = refl
 
 mean_row : job_of_words (codes "mean" ∷ codes "a.src" ∷ codes "-" ∷ []) ≡ Some (Mean (whole_word 1) None Desk 1000000)
 mean_row = refl
 
 -- options stand before, between and after operands
-options_row : job_of_words (codes "mean" ∷ codes "--steps=7" ∷ codes "a.src" ∷ codes "--set=hall" ∷ codes "b" ∷ []) ≡ Some (Mean (whole_word 2) (Some (whole_word 4)) Hall 7)
+options_row : job_of_words (codes "mean" ∷ codes "--steps=7" ∷ codes "a.src" ∷ codes "--set=hall" ∷ codes "b" ∷ [])
+    ≡ Some (Mean (whole_word 2) (Some (whole_word 4)) Hall 7)
 options_row = refl
 
 -- the greatest limit, and the least with nine zeros in front
-limit_rows : map job_of_words ((codes "mean" ∷ codes "a" ∷ codes "-" ∷ codes "--steps=1000000000" ∷ []) ∷ (codes "mean" ∷ codes "a" ∷ codes "-" ∷ codes "--steps=0000000001" ∷ []) ∷ []) ≡ Some (Mean (whole_word 1) None Desk 1000000000) ∷ Some (Mean (whole_word 1) None Desk 1) ∷ []
+limit_rows : map job_of_words (
+    (codes "mean" ∷ codes "a" ∷ codes "-" ∷ codes "--steps=1000000000" ∷ [])
+    ∷ (codes "mean" ∷ codes "a" ∷ codes "-" ∷ codes "--steps=0000000001" ∷ [])
+    ∷ []) ≡ Some (Mean (whole_word 1) None Desk 1000000000) ∷ Some (Mean (whole_word 1) None Desk 1) ∷ []
 limit_rows = refl
 
 -- ---- usage faults
@@ -77,7 +87,25 @@ decode_faults : map job_of_words (
     ∷ []) ≡ replicate 7 None
 decode_faults = refl
 
--- operands too few and too many, `-` for a source, an option twice, a limit of 0 and one past the greatest, an option of another command
+-- a name of an option is matched whole: longer and shorter ones, a name without its value, values that name no set,
+-- and a flag of another command
+near_options : map job_of_words (
+    (codes "mean" ∷ codes "a" ∷ codes "-" ∷ codes "--setx=desk" ∷ [])
+    ∷ (codes "mean" ∷ codes "a" ∷ codes "-" ∷ codes "--se=desk" ∷ [])
+    ∷ (codes "mean" ∷ codes "a" ∷ codes "-" ∷ codes "--set" ∷ [])
+    ∷ (codes "mean" ∷ codes "a" ∷ codes "-" ∷ codes "--set" ∷ codes "desk" ∷ [])
+    ∷ (codes "mean" ∷ codes "a" ∷ codes "-" ∷ codes "--set=" ∷ [])
+    ∷ (codes "mean" ∷ codes "a" ∷ codes "-" ∷ codes "--set==desk" ∷ [])
+    ∷ (codes "mean" ∷ codes "a" ∷ codes "-" ∷ codes "--set=desk=" ∷ [])
+    ∷ (codes "mean" ∷ codes "a" ∷ codes "-" ∷ codes "--steps2=1" ∷ [])
+    ∷ (codes "mean" ∷ codes "a" ∷ codes "-" ∷ codes "--steps" ∷ [])
+    ∷ (codes "mean" ∷ codes "a" ∷ codes "-" ∷ codes "--journalx" ∷ [])
+    ∷ (codes "mean" ∷ codes "a" ∷ codes "-" ∷ codes "--=desk" ∷ [])
+    ∷ []) ≡ replicate 11 None
+near_options = refl
+
+-- operands too few and too many, `-` for a source, an option twice, a limit of 0 and one past the greatest, an option of
+-- another command
 mean_faults : map job_of_words (
     (codes "mean" ∷ [])
     ∷ (codes "mean" ∷ codes "a" ∷ [])

@@ -1,5 +1,5 @@
 use moduli_sets::{SetName, Vector};
-use word_options::FileWord;
+use word_readers::FileWord;
 
 /// What the words ask for.
 #[derive(Debug, PartialEq, Eq, Drop)]
@@ -23,7 +23,7 @@ pub enum Job {
         source: FileWord,
         input: Option<FileWord>,
         set: SetName,
-        steps: u32,
+        steps: u64,
     },
     /// Print the moduli, the number of information moduli and the range.
     Set {

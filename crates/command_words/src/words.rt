@@ -1,62 +1,69 @@
-ghost use Rattle.std.specs.Prelude.{◌≡◌, ℕ, List, IfSome, ◌∷◌, map, string_bytes};
+ghost use Rattle.std.specs.Prelude.{◌≡◌, IfSome, map, string_bytes};
 ghost use Rattle.command_words.specs.Words.{HoldsOf, decode_job, encode_job, job_of_words, mean_job, run_job, set_job, set_option, steps_option};
 
 use crate::Job;
 use moduli_sets::{Moduli, SetName};
-use word_numbers::{integer_in_range, residues_in, steps_in};
-use word_options::{FileWord, file_and_input, has_only_options, is_file_name, option_value};
+use word_readers::{
+    OptionKind, OptionRow, file_and_input, has_only_options, integer_in_range, named_file,
+    option_value, residues_in, steps_in,
+};
+
+/// The options of `mean`.
+const MEAN_OPTIONS: [OptionRow; 2] = [("--set", OptionKind::Value), ("--steps", OptionKind::Value)];
 
 /// The limit of steps where the words say none.
-const DEFAULT_STEPS: u32 = 1_000_000;
+const DEFAULT_STEPS: u64 = 1_000_000;
 
 /// The job that the words ask for. None exactly where they are a usage fault.
 pub fn job_of(words: &[String]) -> Option<Job>
     ensures value { result ≡ job_of_words (map string_bytes words.now) }
     ensures holds { IfSome result (HoldsOf (map string_bytes words.now)) }
 {
-    let (command, operands) = words.split_first()?;
+    let (command, _) = words.split_first()?;
     match command.as_str() {
-        "run" => run_job(operands),
-        "decode" => decode_job(operands),
-        "encode" => encode_job(operands),
-        "mean" => mean_job(operands),
-        "set" => set_job(operands),
+        "run" => run_job(words),
+        "decode" => decode_job(words),
+        "encode" => encode_job(words),
+        "mean" => mean_job(words),
+        "set" => set_job(words),
         _ => None,
     }
 }
 
 /// `run SOURCE - --set=pocket`, the words in this order.
-fn run_job(operands: &[String]) -> Option<Job>
-    ensures { result ≡ run_job (map string_bytes operands.now) }
+fn run_job(words: &[String]) -> Option<Job>
+    ensures value { result ≡ run_job (map string_bytes words.now) }
+    ensures holds { IfSome result (HoldsOf (map string_bytes words.now)) }
 {
-    let [source, input, set] = operands else {
+    let [_, _, input, set] = words else {
         return None;
     };
-    let is_job = is_file_name(source.as_str())
-        && input.as_str() == "-"
-        && set.as_str() == "--set=pocket";
-    is_job.then_some(Job::Run {
-        source: FileWord { word: 1, skip: 0 },
-    })
+    if input.as_str() != "-" || set.as_str() != "--set=pocket" {
+        return None;
+    }
+    let source = named_file(words, 1)?;
+    Some(Job::Run { source })
 }
 
 /// `decode SET RESIDUE ..`, one residue for each channel.
-fn decode_job(operands: &[String]) -> Option<Job>
-    ensures value { result ≡ decode_job (map string_bytes operands.now) }
-    ensures holds { (words : List (List ℕ)) → IfSome result (HoldsOf words) }
+fn decode_job(words: &[String]) -> Option<Job>
+    ensures value { result ≡ decode_job (map string_bytes words.now) }
+    ensures holds { IfSome result (HoldsOf (map string_bytes words.now)) }
 {
-    let (name, words) = operands.split_first()?;
+    let [_, name, residues @ ..] = words else {
+        return None;
+    };
     let set = SetName::named(name.as_bytes())?;
-    let residues = residues_in(&Moduli::of(set), words)?;
+    let residues = residues_in(&Moduli::of(set), residues)?;
     Some(Job::Decode { set, residues })
 }
 
 /// `encode SET X`.
-fn encode_job(operands: &[String]) -> Option<Job>
-    ensures value { result ≡ encode_job (map string_bytes operands.now) }
-    ensures holds { (words : List (List ℕ)) → IfSome result (HoldsOf words) }
+fn encode_job(words: &[String]) -> Option<Job>
+    ensures value { result ≡ encode_job (map string_bytes words.now) }
+    ensures holds { IfSome result (HoldsOf (map string_bytes words.now)) }
 {
-    let [name, number] = operands else {
+    let [_, name, number] = words else {
         return None;
     };
     let set = SetName::named(name.as_bytes())?;
@@ -67,9 +74,9 @@ fn encode_job(operands: &[String]) -> Option<Job>
 /// `mean SOURCE INPUT`, with the options `--set=SET` and `--steps=N` before, between or after them.
 fn mean_job(words: &[String]) -> Option<Job>
     ensures value { result ≡ mean_job (map string_bytes words.now) }
-    ensures holds { (command : List ℕ) → IfSome result (HoldsOf (command ∷ map string_bytes words.now)) }
+    ensures holds { IfSome result (HoldsOf (map string_bytes words.now)) }
 {
-    if !has_only_options(words, &["--set=", "--steps="]) {
+    if !has_only_options(words, &MEAN_OPTIONS) {
         return None;
     }
     let (source, input) = file_and_input(words)?;
@@ -83,32 +90,32 @@ fn mean_job(words: &[String]) -> Option<Job>
     })
 }
 
-/// The set that the option `--set=` names, or `desk` where it isn't there.
+/// The set that the option `--set` names, or `desk` where it isn't there.
 fn set_option(words: &[String]) -> Option<SetName>
     ensures { result ≡ set_option (map string_bytes words.now) }
 {
-    match option_value(words, "--set=")? {
+    match option_value(words, "--set")? {
         Some(name) => SetName::named(name.as_bytes()),
         None => Some(SetName::Desk),
     }
 }
 
-/// The limit that the option `--steps=` writes, or 1,000,000 where it isn't there.
-fn steps_option(words: &[String]) -> Option<u32>
+/// The limit that the option `--steps` writes, or 1,000,000 where it isn't there.
+fn steps_option(words: &[String]) -> Option<u64>
     ensures { result ≡ steps_option (map string_bytes words.now) }
 {
-    match option_value(words, "--steps=")? {
+    match option_value(words, "--steps")? {
         Some(number) => steps_in(number.as_bytes()),
         None => Some(DEFAULT_STEPS),
     }
 }
 
 /// `set SET`.
-fn set_job(operands: &[String]) -> Option<Job>
-    ensures value { result ≡ set_job (map string_bytes operands.now) }
-    ensures holds { (words : List (List ℕ)) → IfSome result (HoldsOf words) }
+fn set_job(words: &[String]) -> Option<Job>
+    ensures value { result ≡ set_job (map string_bytes words.now) }
+    ensures holds { IfSome result (HoldsOf (map string_bytes words.now)) }
 {
-    let [name] = operands else {
+    let [_, name] = words else {
         return None;
     };
     let set = SetName::named(name.as_bytes())?;

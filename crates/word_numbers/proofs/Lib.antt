@@ -1,3 +1,0 @@
-pub mod IntegerLemmas
-pub mod ResidueLemmas
-pub mod ShortNumbers
