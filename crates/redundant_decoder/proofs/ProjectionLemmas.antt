@@ -18,8 +18,7 @@ use Rattle.mixed_radix.proofs.DigitLemmas.{digits_value-digits}
 use Rattle.mixed_radix.proofs.ChosenLemmas.{AreBelow-range, AreBelow-remove, ArePairwiseCoprime-entries_at, product-entries_at_le, get_or-entries_at, length-entries_at}
 use Rattle.mixed_radix.proofs.SignLemmas.{entries_at-range}
 use Rattle.redundant_decoder.specs.Projection.{IsIntegerOf}
-use Rattle.redundant_decoder.specs.Verdict.{IsCorrection, IsVerdict}
-use Rattle.redundant_decoder.specs.declared.decoder.Verdict.TheVariants.{Clean}
+use Rattle.redundant_decoder.specs.Verdict.{IsCorrection}
 use Rattle.redundant_decoder.proofs.PartLemmas.{remove-map}
 use Rattle.redundant_decoder.proofs.VerdictLemmas.{length-vector, IsCorrection-from_remove}
 
@@ -146,21 +145,6 @@ AreBelow-without n i which e = subst (AreBelow n) (sym e) (AreBelow-remove n (ra
 
 length-of : (set : ModuliSet) (v : List ℕ) → AreResidues set.moduli v → length v ≡ length set.moduli
 length-of set v residues = sym (length-vector set.moduli v (pos 0) residues) ∙ length-map set.moduli (residue (pos 0))
-
--- all residues of v are those of x
-all_from_entries_at : (set : ModuliSet) (v : List ℕ) (x : ℤ) → AreResidues set.moduli v → entries_at (range_with_len 0 (length set.moduli)) (vector_of set.moduli x) ≡ entries_at (range_with_len 0 (length set.moduli)) v → v ≡ vector_of set.moduli x
-all_from_entries_at set v x residues e =
-    sym (entries_at-all v (length set.moduli) (length-of set v residues)) ∙ sym e ∙ entries_at-all (vector_of set.moduli x) (length set.moduli) (length-map set.moduli (residue x))
-
--- the integer of all channels is clean
-pub IsVerdict-clean : (set : ModuliSet) (which v : List ℕ) (x : ℤ) → AreResidues set.moduli v → which ≡ range_with_len 0 (length set.moduli) → IsIntegerOf set which v x → IsVerdict (radius set) None set v (Clean x)
-IsVerdict-clean set which v x residues e is =
-    (is.in_range, all_from_entries_at set v x residues (subst (λ w. entries_at w (vector_of set.moduli x) ≡ entries_at w v) e is.residues))
-
--- where all channels have none, v is no integer's vector
-pub none_clean : (set : ModuliSet) (which v : List ℕ) → ((x : ℤ) → IsIntegerOf set which v x → ⊥) → (x : ℤ) → IsInRange set x → v ≢ vector_of set.moduli x
-none_clean set which v none x in_x e =
-    none x (record { in_range = in_x; residues = ap (entries_at which) (sym e) })
 
 -- the residues but for one channel
 remove_from_entries_at : (set : ModuliSet) (v : List ℕ) (x : ℤ) (i : ℕ) → AreResidues set.moduli v → entries_at (remove (range_with_len 0 (length set.moduli)) i) (vector_of set.moduli x) ≡ entries_at (remove (range_with_len 0 (length set.moduli)) i) v → remove (vector_of set.moduli x) i ≡ remove v i
