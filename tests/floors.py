@@ -1,7 +1,7 @@
 #!/usr/bin/env python3
 """Whether crates.txt, the README, docs/ARCHITECTURE.md and docs/PROOF.md list the same crates under the same floors.
 
-    tests/floors.py     fails where a list differs, and says how
+    tests/floors.py     fails where a list differs, or a crate stands on a later one, and says how
 
 The order counts, of the floors and of the crates in each. A floor is, in crates.txt, the comment `# Ground` and the
 lines after it; in the README an item `- **Ground** (`number_theory`, ..)`; in the documents a heading `### Ground` of
@@ -46,6 +46,16 @@ def of_document(lines):
     return floors
 
 
+def upside_down(lines):
+    """The crates that stand on a crate of a later line, a line each."""
+    stands_on = dict(re.findall(r"^(\w+)[^#:\n]*:(.*)$", "\n".join(lines), re.M))
+    order = list(stands_on)
+    return [
+        f"crates.txt, {crate}: it stands on {low}, which comes later"
+        for place, crate in enumerate(order) for low in stands_on[crate].split() if low in order[place:]
+    ]
+
+
 LISTS = {
     "README.md": of_readme,
     "docs/ARCHITECTURE.md": of_document,
@@ -70,7 +80,7 @@ def difference(name, found, wanted):
 
 def main():
     wanted = of_crates_txt(lines_of("crates.txt"))
-    wrong = difference("crates.txt", wanted, wanted)
+    wrong = difference("crates.txt", wanted, wanted) + upside_down(lines_of("crates.txt"))
     if not wrong:
         wrong = [line for name, reads in LISTS.items() for line in difference(name, reads(lines_of(name)), wanted)]
     for line in wrong:
