@@ -1,3 +1,4 @@
+pub mod DifferenceLemmas
 pub mod DistanceLemmas
 pub mod LawLemmas
 pub mod PartLemmas

@@ -1,5 +1,5 @@
 -- The distance of vectors, and the nearest integer of a vector.
-use Rattle.std.specs.Prelude.{ℕ, zero, suc, ◌+◌, ◌≤◌, ◌==◌, ℤ, Bool, true, false, List, [], ◌∷◌, ◌++◌, map, Option, Some, None, if◌then◌else◌}
+use Rattle.std.specs.Prelude.{◌≢◌, ℕ, zero, suc, ◌+◌, ◌<◌, ◌≤◌, ◌==◌, ℤ, Bool, true, false, List, [], ◌∷◌, ◌++◌, map, length, slice_index, Option, Some, None, if◌then◌else◌}
 use Rattle.std.specs.List.{remove}
 use Rattle.moduli_sets.specs.Set.{ModuliSet, IsInRange}
 use Rattle.moduli_sets.specs.Vector.{vector_of}
@@ -29,6 +29,12 @@ different_places erased (x ∷ xs) [] = []
 different_places None (x ∷ xs) (y ∷ ys) = (if x == y then [] else (0 ∷ [])) ++ map suc (different_places None xs ys)
 different_places (Some zero) (x ∷ xs) (y ∷ ys) = map suc (different_places None xs ys)
 different_places (Some (suc i)) (x ∷ xs) (y ∷ ys) = (if x == y then [] else (0 ∷ [])) ++ map suc (different_places (Some i) xs ys)
+
+-- the lists have different entries at place k, and it isn't erased
+pub record DifferAt (erased : Option ℕ) (xs ys : List ℕ) (k : ℕ) : Type 0 where
+  pub inside : k < length xs
+  pub counts : erased ≢ Some k
+  pub differs : slice_index xs k ≢ slice_index ys k
 
 -- x is in range, and its vector is at distance t from v at the most; an erased channel counts for nothing
 pub record IsWithin (t : ℕ) (erased : Option ℕ) (set : ModuliSet) (v : List ℕ) (x : ℤ) : Type 0 where

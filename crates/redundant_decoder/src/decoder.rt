@@ -28,8 +28,8 @@ pub trait Decoder: Drop {
         ensures { IsVerdict (radius (set self.now)) None (set self.now) v.now result };
 }
 
-/// A vector has one verdict, whether a channel is erased or not, where no more wrong residues are corrected than the
-/// radius of the set.
+/// A vector has one verdict at the most, whether a channel is erased or not, where no more wrong residues are corrected
+/// than the radius of the set.
 pub fn one_verdict()
     ensures { (set : ModuliSet) (t : ℕ) (erased : Option ℕ) (v : List ℕ) (a b : Verdict)
         → IsModuliSet set

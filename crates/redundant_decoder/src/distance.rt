@@ -1,11 +1,23 @@
-ghost use Rattle.std.specs.Prelude.{◌≡◌, ◌≢◌, ℕ, ◌+◌, ◌*◌, ◌<◌, ◌≤◌, ℤ, Bool, List, Option, Some, None, length};
+ghost use Rattle.std.specs.Prelude.{◌≡◌, ◌≢◌, ℕ, ◌+◌, ◌*◌, ◌<◌, ◌≤◌, ℤ, Bool, List, Option, Some, None, length, Contains, ◌↔◌};
+ghost use Rattle.std.specs.List.Sorted.{IsStrictlyIncreasing};
 ghost use Rattle.number_theory.specs.Residue.{AreResidues};
 ghost use Rattle.moduli_sets.specs.Set.{ModuliSet, IsModuliSet, IsInRange, redundant, radius};
 ghost use Rattle.moduli_sets.specs.Vector.{vector_of};
-ghost use Rattle.redundant_decoder.specs.Nearest.{IsNearest, IsWithin, distance, part, without};
+ghost use Rattle.redundant_decoder.specs.Nearest.{DifferAt, IsNearest, different_places, distance, part, without};
 ghost use Rattle.redundant_decoder.specs.Verdict.{HasInteger, IsVerdict};
 ghost use Rattle.redundant_decoder.specs.declared.decoder.Verdict.{Verdict};
 ghost use Rattle.redundant_decoder.specs.declared.decoder.Verdict.TheVariants.{Damaged};
+
+/// The places in which two lists differ: those at which other entries stand, an erased one aside. They ascend, and are
+/// as many as the distance of the lists without the erased entry.
+pub fn places_of_difference()
+    ensures are { (erased : Option ℕ) (xs ys : List ℕ) (k : ℕ)
+        → length xs ≡ length ys
+        → (Contains (different_places erased xs ys) k ↔ DifferAt erased xs ys k) }
+    ensures ascending { (erased : Option ℕ) (xs ys : List ℕ) → IsStrictlyIncreasing (different_places erased xs ys) }
+    ensures count { (erased : Option ℕ) (xs ys : List ℕ)
+        → length (different_places erased xs ys) ≡ distance (without erased xs) (without erased ys) }
+{}
 
 /// The distance law. Over any part of the moduli two distinct integers in range agree in fewer places than there are
 /// information moduli. So their vectors differ in more places than there are redundant moduli, and in one place less

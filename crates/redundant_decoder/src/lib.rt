@@ -11,5 +11,5 @@ mod distance;
 mod projecting;
 
 pub use decoder::{Decoder, Verdict, one_verdict};
-pub use distance::{distance_law, nearest_is_the_only_one, wrong_residues};
+pub use distance::{distance_law, nearest_is_the_only_one, places_of_difference, wrong_residues};
 pub use projecting::Projecting;
