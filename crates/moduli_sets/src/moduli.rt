@@ -174,8 +174,8 @@ impl Moduli {
         self.moduli[i]
     }
 
-    /// The inverse of modulus s modulo modulus i: the number y below modulus i with which modulus s
-    /// leaves 1.
+    /// The inverse of modulus s modulo modulus i: the number below modulus i whose product with modulus s has the
+    /// remainder 1 there.
     pub fn inverse(&self, s: usize, i: usize) -> u32
         requires differ { s ≢ i }
         requires s_in { s < length (set_of self.now).moduli }

@@ -15,12 +15,12 @@ abbrev pub product : List ℕ → ℕ
 product [] = 1
 product (m ∷ ms) = m * product ms
 
--- y is the inverse of a modulo m: the number below m with which a leaves 1
+-- y is the inverse of a modulo m: the number below m whose product with a has the remainder 1
 pub record IsInverse (a m y : ℕ) : Type 0 where
   pub small : y < m
   pub leaves_one : (a * y) % m ≡ 1
 
--- the greatest number below n with which a leaves 1 modulo m; 0 where there is none
+-- the greatest number below n whose product with a has the remainder 1 modulo m; 0 where there is none
 unfoldable pub inverse_below : ℕ → ℕ → ℕ → ℕ
 inverse_below a m zero = 0
 inverse_below a m (suc n) = if (a * n) % m == 1 then n else inverse_below a m n
