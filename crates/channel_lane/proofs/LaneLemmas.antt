@@ -7,9 +7,9 @@ use Rattle.number_theory.proofs.ResidueLemmas.{residue-below}
 use Rattle.channel_alu.specs.declared.operation.Place.{Place}
 use Rattle.channel_alu.specs.declared.operation.Place.TheVariants.{Reg, Scratch, Word}
 use Rattle.channel_alu.specs.declared.operation.MicroOp.{MicroOp}
-use Rattle.channel_alu.specs.declared.operation.MicroOp.TheVariants.{Put, Copy, Add, Sub, Mul, MulAdd, Neg, Unscale, Show}
 use Rattle.fault_book.specs.Book.{Book, fault_at}
-use Rattle.channel_lane.specs.Lane.{LaneState, HasPlace, CanPerform, modulus_of, with_held, destination, plain_value, value_of, answer_of, lane_after, lane_after_all}
+use Rattle.channel_lane.specs.Meaning.{CanPerform, destination}
+use Rattle.channel_lane.specs.Lane.{LaneState, modulus_of, with_held, plain_value, value_of, answer_of, lane_after, lane_after_all}
 
 -- a lane with one answer more
 abbrev pub one_answer_more : LaneState → LaneState
@@ -61,15 +61,15 @@ unfolding lane_after
 lane_after-shown book op lane place =
     ap (λ p. record (option_map_or (λ t. with_held lane t (answer_of book op lane)) p lane) { answers = lane.answers + 1 }) place
 
-set-after : (book : Book) (op : MicroOp) (lane : LaneState) → (lane_after book op lane).set ≡ lane.set
+pub set-after : (book : Book) (op : MicroOp) (lane : LaneState) → (lane_after book op lane).set ≡ lane.set
 unfolding lane_after
 set-after book op lane = set-written lane (answer_of book op lane) (destination op)
 
-channel-after : (book : Book) (op : MicroOp) (lane : LaneState) → (lane_after book op lane).channel ≡ lane.channel
+pub channel-after : (book : Book) (op : MicroOp) (lane : LaneState) → (lane_after book op lane).channel ≡ lane.channel
 unfolding lane_after
 channel-after book op lane = channel-written lane (answer_of book op lane) (destination op)
 
-words-after : (book : Book) (op : MicroOp) (lane : LaneState) → length (lane_after book op lane).words ≡ length lane.words
+pub words-after : (book : Book) (op : MicroOp) (lane : LaneState) → length (lane_after book op lane).words ≡ length lane.words
 unfolding lane_after
 words-after book op lane = words-written lane (answer_of book op lane) (destination op)
 
@@ -118,23 +118,8 @@ unfolding answer_of
 answer_of-value book op lane none = ap (λ f. option_map_or (λ x. x % modulus_of lane) f (value_of lane op)) none
 
 -- ---- what a lane can perform
-HasPlace-same : (before after : LaneState) (place : Place) → length after.words ≡ length before.words → HasPlace before place → HasPlace after place
-HasPlace-same before after (Reg n) same h = h
-HasPlace-same before after (Scratch n) same h = h
-HasPlace-same before after (Word n) same h = omega arith
-
-CanPerform-same : (before after : LaneState) (op : MicroOp) → length after.words ≡ length before.words → after.set ≡ before.set → CanPerform before op → CanPerform after op
-CanPerform-same before after (Put to value) words set h = HasPlace-same before after to words h
-CanPerform-same before after (Copy to from) words set h = (HasPlace-same before after to words h.0, HasPlace-same before after from words h.1)
-CanPerform-same before after (Add to left right) words set h = (HasPlace-same before after to words h.0, HasPlace-same before after left words h.1, HasPlace-same before after right words h.2)
-CanPerform-same before after (Sub to left right) words set h = (HasPlace-same before after to words h.0, HasPlace-same before after left words h.1, HasPlace-same before after right words h.2)
-CanPerform-same before after (Mul to left right) words set h = (HasPlace-same before after to words h.0, HasPlace-same before after left words h.1, HasPlace-same before after right words h.2)
-CanPerform-same before after (MulAdd to left right plus) words set h = (HasPlace-same before after to words h.0, HasPlace-same before after left words h.1, HasPlace-same before after right words h.2, HasPlace-same before after plus words h.3)
-CanPerform-same before after (Neg to from) words set h = (HasPlace-same before after to words h.0, HasPlace-same before after from words h.1)
-CanPerform-same before after (Unscale to from channel take give) words set h =
-    (HasPlace-same before after to words h.0, HasPlace-same before after from words h.1, subst (λ s. channel < length s.moduli) (sym set) h.2)
-CanPerform-same before after (Show from) words set h = HasPlace-same before after from words h
-
-pub CanPerform-after_all : (book : Book) (ops : List MicroOp) (lane : LaneState) (op : MicroOp) → CanPerform lane op → CanPerform (lane_after_all book ops lane) op
+pub CanPerform-after_all : (book : Book) (ops : List MicroOp) (lane : LaneState) (op : MicroOp) → CanPerform (length lane.words) (length lane.set.moduli) op
+    → CanPerform (length (lane_after_all book ops lane).words) (length (lane_after_all book ops lane).set.moduli) op
 CanPerform-after_all book ops lane op h =
-    CanPerform-same lane (lane_after_all book ops lane) op (words-after_all book ops lane) (set-after_all book ops lane) h
+    let channels = subst (λ s. CanPerform (length lane.words) (length s.moduli) op) (sym (set-after_all book ops lane)) h in
+    subst (λ words. CanPerform words (length (lane_after_all book ops lane).set.moduli) op) (sym (words-after_all book ops lane)) channels

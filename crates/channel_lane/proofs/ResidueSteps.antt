@@ -2,7 +2,6 @@
 use Rattle.std.proofs.Common.{◌≡◌, ◌≢◌, ℕ, ◌+◌, ◌*◌, ◌%◌, ◌<◌, ◌==◌, cond, List, map, All, sym, ap, ◌∙◌, ℤ, pos, neg_ℤ, ◌-ℤ◌, ◌*ℤ◌}
 use Rattle.std.proofs.lemmas.Bool.{ne_eqb}
 use Rattle.std.proofs.lemmas.List.Elements.{All-map, All-from_get_or}
-use Rattle.std.proofs.Math.Nat.{mod-eq_of_lt}
 use Rattle.number_theory.specs.Residue.{residue}
 use Rattle.number_theory.proofs.ResidueLemmas.{residue-below, residue-sub, residue-mul, residue-residue}
 

@@ -1,6 +1,7 @@
-ghost use Rattle.std.specs.Prelude.{◌≡◌, ◌+◌, ◌-◌, ◌<◌, ◌^◌, IfOk, length, map, slice_index};
+ghost use Rattle.std.specs.Prelude.{◌≡◌, ◌+◌, ◌-◌, ◌<◌, ◌^◌, IfOk, length, map, pos, slice_index};
 ghost use Rattle.moduli_sets.specs.Moduli.{set_of};
-ghost use Rattle.channel_lane.specs.Lane.{CanPerform, HasPlace, answer_of, destination, held_in, lane_after, lane_at_start, modulus_of, unscaled_value, value_of, with_held};
+ghost use Rattle.channel_lane.specs.Meaning.{CanPerform, HasPlace, destination};
+ghost use Rattle.channel_lane.specs.Lane.{answer_of, held_in, lane_after, lane_at_start, modulus_of, unscaled_value, value_of, with_held};
 ghost use Rattle.number_theory.specs.Residue.{residue};
 
 use channel_alu::{Channel, MicroOp, Place};
@@ -83,7 +84,7 @@ impl<C: Channel> Lane<C> {
 
     /// Performs an operation: the answer is written to its destination, counted, and returned.
     pub fn perform(&mut self, op: &MicroOp, faults: &Faults) -> u32
-        requires can { CanPerform self.old op.now }
+        requires can { CanPerform (length self.old.words) (length self.old.set.moduli) op.now }
         requires count { self.old.answers < 2 ^ 64 - 1 }
         ensures answer { result ≡ answer_of faults.now op.now self.old }
         ensures lane { self.new ≡ lane_after faults.now op.now self.old }
@@ -98,7 +99,7 @@ impl<C: Channel> Lane<C> {
 
     /// The residue in a place.
     pub fn held(&self, place: Place) -> u32
-        requires { HasPlace self.now place }
+        requires { HasPlace (length self.now.words) place }
         ensures value { result ≡ held_in self.now place }
         ensures below { result < modulus_of self.now }
     {
@@ -133,7 +134,7 @@ impl<C: Channel> Lane<C> {
 
     /// The answer to an operation: its value, or the fault that the book has in its place.
     fn answer(&self, op: &MicroOp, faults: &Faults) -> u32
-        requires { CanPerform self.now op.now }
+        requires { CanPerform (length self.now.words) (length self.now.set.moduli) op.now }
         ensures value { result ≡ answer_of faults.now op.now self.now }
         ensures below { result < modulus_of self.now }
     {
@@ -145,7 +146,7 @@ impl<C: Channel> Lane<C> {
 
     /// The value of an operation in this channel.
     fn value(&self, op: &MicroOp) -> u32
-        requires { CanPerform self.now op.now }
+        requires { CanPerform (length self.now.words) (length self.now.set.moduli) op.now }
         ensures value { result ≡ value_of self.now op.now }
         ensures below { result < modulus_of self.now }
     {
@@ -174,12 +175,12 @@ impl<C: Channel> Lane<C> {
         }
     }
 
-    /// What an Unscale by channel s makes of a residue here: the residue less `take`, divided by the modulus
-    /// of s; in s itself `give`.
+    /// What an Unscale by channel s makes of a residue here: what is left after `take`, times the inverse of the
+    /// modulus of s; in s itself `give`.
     fn unscaled_residue(&self, x: u32, s: usize, take: u32, give: u32) -> u32
         requires residue { x < modulus_of self.now }
         requires channel { s < length self.now.set.moduli }
-        ensures value { result ≡ residue (unscaled_value self.now x s take give) (modulus_of self.now) }
+        ensures value { result ≡ residue (unscaled_value self.now (pos x) s take give) (modulus_of self.now) }
         ensures below { result < modulus_of self.now }
     {
         let modulus = self.arithmetic.modulus();
@@ -193,7 +194,7 @@ impl<C: Channel> Lane<C> {
 
     /// Puts a residue into a place.
     fn write(&mut self, to: Place, x: u32)
-        requires place { HasPlace self.old to }
+        requires place { HasPlace (length self.old.words) to }
         requires below { x < modulus_of self.old }
         ensures { self.new ≡ with_held self.old to x }
     {

@@ -10,4 +10,4 @@ mod lane;
 mod laws;
 
 pub use lane::Lane;
-pub use laws::laws_of_lanes;
+pub use laws::{law_of_meanings, laws_of_lanes};

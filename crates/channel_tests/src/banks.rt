@@ -1,6 +1,6 @@
-ghost use Rattle.std.specs.Prelude.{◌≡◌, ℕ, ◌<◌, length};
+ghost use Rattle.std.specs.Prelude.{ℕ, length};
 ghost use Rattle.moduli_sets.specs.Name.{set_of_name};
-ghost use Rattle.channel_lane.specs.Lane.{LaneState, CanPerform, lane_at_start};
+ghost use Rattle.channel_lane.specs.Meaning.{CanPerform};
 
 use channel_alu::{MicroOp, Place, Plain, Plus, Power};
 use fault_book::Faults;
@@ -23,7 +23,7 @@ fn is_vector(vector: &Vector, residues: &[u32]) -> bool {
 /// The answer of lane i to an operation that every lane can perform. None where there is no such lane, or its
 /// answers cannot be counted any more.
 fn answer<B: Bank>(bank: &mut B, i: usize, op: &MicroOp, faults: &Faults) -> Option<u32>
-    requires { (lane : LaneState) → CanPerform lane op.now }
+    requires { (words channels : ℕ) → CanPerform words channels op.now }
 {
     if i < bank.lanes() && bank.answered(i) < u64::MAX {
         Some(bank.perform(i, op, faults))
@@ -53,9 +53,7 @@ fn performs<B: Bank>(
     held: &[(u32, u64)],
 ) -> Result<bool, AllocError>
     requires moduli { B.fits (set_of_name name).moduli }
-    requires can { (channel : ℕ)
-        → channel < length (set_of_name name).moduli
-        → CanPerform (lane_at_start (set_of_name name) start.now channel) op.now }
+    requires can { CanPerform (length start.now) (length (set_of_name name).moduli) op.now }
 {
     // the second answer of channel 1 is 44, and no other entry is asked for
     let faults = Faults::of_entries(alloc, &[(1, 1, 44), (3, 1, 3)])?;

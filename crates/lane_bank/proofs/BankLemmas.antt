@@ -1,14 +1,19 @@
 -- Lanes of a bank, one after another.
-use Rattle.std.proofs.Common.{◌≡◌, ℕ, suc, ◌+◌, ◌-◌, ◌<◌, All, List, [], ◌∷◌, ◌++◌, map, take, drop, length, get_or, refl, sym, ap, ◌∙◌, subst, arith, ℤ}
+use Rattle.std.proofs.Common.{◌≡◌, ℕ, suc, slice_index, ◌+◌, ◌-◌, ◌<◌, All, List, [], ◌∷◌, ◌++◌, map, take, drop, length, get_or, refl, sym, ap, ◌∙◌, subst, arith, ℤ}
 use Rattle.std.specs.List.{range_with_len}
-use Rattle.std.proofs.lemmas.List.{length-map, length-take-le, length-drop, length-append, get_or_default, map_more}
+use Rattle.std.proofs.lemmas.List.{get_or-map, length-map, length-take-le, length-drop, length-append, get_or_default, map_more}
 use Rattle.std.proofs.lemmas.List.Edits.{map_over_more}
-use Rattle.std.proofs.lemmas.List.Elements.{All-from_get_or}
+use Rattle.std.proofs.lemmas.List.Elements.{All-from_get_or, All-get_or, All-map}
 use Rattle.std.proofs.Math.ListN.{set}
 use Rattle.std.proofs.lemmas.List.FromFn.{length-map-range_with_len, get_or-map-range_with_len}
 use Rattle.std.proofs.Math.Seq.{drop-cons, get_or-append_seam}
-use Rattle.moduli_sets.specs.Set.{ModuliSet}
-use Rattle.channel_lane.specs.Lane.{LaneState, lane_at_start}
+use Rattle.moduli_sets.specs.Set.{ModuliSet, IsModulus, IsModuliSet}
+use Rattle.number_theory.specs.Residue.{AreResidues, residue}
+use Rattle.channel_alu.specs.declared.operation.MicroOp.{MicroOp}
+use Rattle.fault_book.specs.Book.{Book}
+use Rattle.channel_lane.specs.Meaning.{CanPerform}
+use Rattle.channel_lane.specs.Lane.{LaneState, modulus_of, answer_of, lane_at_start, lane_after_all}
+use Rattle.channel_lane.proofs.LaneLemmas.{CanPerform-after_all, set-after_all, channel-after_all, answer-below}
 use Rattle.lane_bank.specs.Bank.{no_lane, lane_at, lanes_at_start}
 
 -- where the elements before place i are mapped, that at i is still the old one
@@ -57,3 +62,55 @@ All-lanes_at_start P s first start each =
     All-from_get_or P (lanes_at_start s first start) no_lane (λ i h.
     let within : first + i < length s.moduli = omega (arith, length-lanes_at_start s first start) in
     subst P (sym (lane_at-start s first i start within)) (each (first + i) within))
+
+-- one condition for all lanes of a new bank
+can_at_start : (s : ModuliSet) (start : List ℤ) (op : MicroOp) (channel : ℕ) → CanPerform (length start) (length s.moduli) op
+    → CanPerform (length (lane_at_start s start channel).words) (length s.moduli) op
+can_at_start s start op channel =
+    subst (λ words. CanPerform words (length s.moduli) op) (sym (length-map start (λ x. residue x (slice_index s.moduli channel))))
+
+pub CanPerform-at_start : (s : ModuliSet) (first : ℕ) (start : List ℤ) (op : MicroOp) → CanPerform (length start) (length s.moduli) op
+    → All (λ lane. CanPerform (length lane.words) (length lane.set.moduli) op) (lanes_at_start s first start)
+CanPerform-at_start s first start op h =
+    All-lanes_at_start (λ lane. CanPerform (length lane.words) (length lane.set.moduli) op) s first start (λ channel _. can_at_start s start op channel h)
+
+-- and of a bank after any operations
+pub CanPerform-lanes : (book : Book) (s : ModuliSet) (first : ℕ) (start : List ℤ) (ops : List MicroOp) (op : MicroOp) → CanPerform (length start) (length s.moduli) op
+    → All (λ lane. CanPerform (length lane.words) (length lane.set.moduli) op) (map (lane_after_all book ops) (lanes_at_start s first start))
+CanPerform-lanes book s first start ops op h =
+    let can : LaneState → Type 0 = λ lane. CanPerform (length lane.words) (length lane.set.moduli) op in
+    All-map can (lane_after_all book ops) (lanes_at_start s first start)
+    (All-lanes_at_start (λ lane. can (lane_after_all book ops lane)) s first start (λ channel _. CanPerform-after_all book ops (lane_at_start s start channel) op (can_at_start s start op channel h)))
+
+-- one residue for each modulus
+AreResidues-by_place : (ms rs : List ℕ) → length rs ≡ length ms → ((i : ℕ) → i < length ms → get_or rs i 0 < get_or ms i 0) → AreResidues ms rs
+AreResidues-by_place [] [] e below = tt
+AreResidues-by_place [] (r ∷ rs) e below = absurd (omega arith)
+AreResidues-by_place (m ∷ ms) [] e below = absurd (omega arith)
+AreResidues-by_place (m ∷ ms) (r ∷ rs) e below = (below 0 (omega arith), AreResidues-by_place ms rs (omega arith) (λ i h. below (suc i) (omega arith)))
+
+-- the modulus of a lane that began at a start
+modulus-run : (book : Book) (s : ModuliSet) (start : List ℤ) (ops : List MicroOp) (channel : ℕ) → modulus_of (lane_after_all book ops (lane_at_start s start channel)) ≡ slice_index s.moduli channel
+modulus-run book s start ops channel =
+    ap (λ t. slice_index t.moduli (lane_after_all book ops (lane_at_start s start channel)).channel) (set-after_all book ops (lane_at_start s start channel))
+    ∙ ap (slice_index s.moduli) (channel-after_all book ops (lane_at_start s start channel))
+
+-- the column of an operation is residues of the moduli
+pub AreResidues-column : (book : Book) (s : ModuliSet) (start : List ℤ) (ops : List MicroOp) (op : MicroOp) → IsModuliSet s
+    → AreResidues s.moduli (map (answer_of book op) (map (lane_after_all book ops) (lanes_at_start s 0 start)))
+AreResidues-column book s start ops op rules =
+    let lanes = lanes_at_start s 0 start in
+    let run = lane_after_all book ops in
+    let count : length lanes ≡ length s.moduli = length-lanes_at_start s 0 start ∙ omega arith in
+    let many : length (map run lanes) ≡ length s.moduli = length-map lanes run ∙ count in
+    AreResidues-by_place s.moduli (map (answer_of book op) (map run lanes)) (length-map (map run lanes) (answer_of book op) ∙ many)
+    (λ i h.
+    let lane = lane_at_start s start i in
+    let is : IsModulus (get_or s.moduli i 0) = All-get_or IsModulus s.moduli i 0 h rules.moduli in
+    let modulus : modulus_of (run lane) ≡ get_or s.moduli i 0 = modulus-run book s start ops i in
+    let below : answer_of book op (run lane) < modulus_of (run lane) = answer-below book op (run lane) (omega (arith, modulus, is.at_least_two)) in
+    let here : lane_at lanes i ≡ lane = lane_at-start s 0 i start (omega arith) ∙ ap (lane_at_start s start) (omega arith) in
+    let answer : get_or (map (answer_of book op) (map run lanes)) i 0 ≡ answer_of book op (run lane) =
+    get_or-map (answer_of book op) (map run lanes) i (run no_lane) 0 (omega (arith, many))
+    ∙ ap (answer_of book op) (get_or-map run lanes i no_lane (run no_lane) (omega (arith, count)) ∙ ap run here) in
+    omega (arith, below, modulus, answer))

@@ -1,6 +1,7 @@
 ghost use Rattle.std.specs.Prelude.{◌≡◌, ℕ, ◌-◌, ◌<◌, ◌≤◌, ◌^◌, List, IfOk, drop, length, slice_set};
 ghost use Rattle.moduli_sets.specs.Moduli.{set_of};
-ghost use Rattle.channel_lane.specs.Lane.{LaneState, CanPerform, HasPlace, answer_of, held_in, lane_after, modulus_of};
+ghost use Rattle.channel_lane.specs.Meaning.{CanPerform, HasPlace};
+ghost use Rattle.channel_lane.specs.Lane.{LaneState, answer_of, held_in, lane_after, modulus_of};
 ghost use Rattle.lane_bank.specs.Bank.{lane_at, lanes_at_start};
 
 use channel_alu::{MicroOp, Place};
@@ -32,7 +33,8 @@ pub trait Bank: Sized + Drop {
     /// becomes are functions of lane i, the operation and the faults alone.
     fn perform(&mut self, i: usize, op: &MicroOp, faults: &Faults) -> u32
         requires lane { i < length (lanes_of self.old) }
-        requires can { CanPerform (lane_at (lanes_of self.old) i) op.now }
+        requires can { CanPerform (length (lane_at (lanes_of self.old) i).words)
+            (length (lane_at (lanes_of self.old) i).set.moduli) op.now }
         requires count { (lane_at (lanes_of self.old) i).answers < 2 ^ 64 - 1 }
         ensures answer { result ≡ answer_of faults.now op.now (lane_at (lanes_of self.old) i) }
         ensures lanes { lanes_of self.new
@@ -41,7 +43,7 @@ pub trait Bank: Sized + Drop {
     /// The residue in a place of lane i.
     fn held(&self, i: usize, place: Place) -> u32
         requires lane { i < length (lanes_of self.now) }
-        requires place { HasPlace (lane_at (lanes_of self.now) i) place }
+        requires place { HasPlace (length (lane_at (lanes_of self.now) i).words) place }
         ensures value { result ≡ held_in (lane_at (lanes_of self.now) i) place }
         ensures below { result < modulus_of (lane_at (lanes_of self.now) i) };
 

@@ -15,5 +15,5 @@ pub use bank::Bank;
 pub use banks::{Cons, Nil};
 pub use channel_lane::Lane;
 pub use column::perform_in_all;
-pub use laws::lanes_of_new_banks;
+pub use laws::{lanes_of_new_banks, lanes_of_runs};
 pub use set_banks::{DeskBank, HallBank, PocketBank, banks_fit_their_sets};

@@ -1,6 +1,7 @@
 use Rattle.std.proofs.Common.{◌<◌, ◌^◌, ◌-◌, length, subst, sym, ap, ◌∙◌, arith}
 use Rattle.std.proofs.lemmas.List.Elements.{All-get_or}
-use Rattle.channel_lane.specs.Lane.{LaneState, CanPerform, answer_of, lane_after}
+use Rattle.channel_lane.specs.Meaning.{CanPerform}
+use Rattle.channel_lane.specs.Lane.{LaneState, answer_of, lane_after}
 use Rattle.lane_bank.specs.Bank.{no_lane}
 use Rattle.lane_bank.proofs.BankLemmas.{get_or-mapped, mapped_more, column_more}
 use Rattle.lane_bank.proofs.column.perform_in_all.Goals as goal
@@ -10,7 +11,7 @@ perform-requires-clause-can g c =
     let old = g.B.Bank.lanes_of c.args.bank.now in
     let i = c.loop-i.i in
     let within : i < length old = omega arith in
-    let can : LaneState → Type 0 = λ lane. CanPerform lane c.args.op.now in
+    let can : LaneState → Type 0 = λ lane. CanPerform (length lane.words) (length lane.set.moduli) c.args.op.now in
     subst can (sym (get_or-mapped (lane_after c.args.faults.now c.args.op.now) old _ i no_lane within c.loop-i.invariant.lanes)) (All-get_or can old i no_lane within c.requires.can)
 
 pub perform-requires-clause-count : goal.perform-requires-clause-count

@@ -1,5 +1,5 @@
 use Rattle.std.proofs.Common.{◌≡◌, None, Some, sym, ap, ◌∙◌}
-use Rattle.channel_lane.specs.Lane.{destination}
+use Rattle.channel_lane.specs.Meaning.{destination}
 use Rattle.channel_lane.proofs.LaneLemmas.{one_answer_more, lane_after-written, lane_after-shown}
 use Rattle.channel_lane.proofs.lane.Lane.perform.Goals as goal
 use Rattle.channel_lane.proofs.lane.Lane.perform.Goals.{in-Some, in_default}
