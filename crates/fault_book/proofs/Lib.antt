@@ -1,2 +1,3 @@
 mod BookLemmas
+pub mod ColumnLemmas
 mod EntryLemmas

@@ -6,5 +6,7 @@
 #![tactic(auto)]
 
 mod faults;
+mod laws;
 
 pub use faults::Faults;
+pub use laws::laws_of_faults;
