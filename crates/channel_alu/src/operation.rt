@@ -52,8 +52,8 @@ pub enum MicroOp {
         to: Place,
         from: Place,
     },
-    /// to := (from - take) / the modulus of `channel`, which `take` leaves no remainder by. In `channel` itself,
-    /// where nothing can be divided by its modulus, to := give
+    /// to := (from - take) / the modulus of `channel`. `take` is the number's residue by that modulus, so that the
+    /// difference is divisible by it. In `channel` itself its modulus has no inverse, and to := give
     Unscale {
         to: Place,
         from: Place,
