@@ -1,5 +1,5 @@
 -- A book made of entries, read as a list of them.
-use Rattle.std.proofs.Common.{◌≡◌, ℕ, ◌<◌, ◌≤◌, Bool, true, false, cond, nat_eq, ◌&&◌, ◌||◌, List, [], ◌∷◌, All, None, Some, refl, sym, ap, ◌∙◌, arith}
+use Rattle.std.proofs.Common.{◌≡◌, ℕ, Bool, true, false, cond, nat_eq, ◌&&◌, ◌||◌, List, [], ◌∷◌, slice_index_or, inl, inr, All, None, Some, refl, sym, ap, ◌∙◌, arith}
 use Rattle.std.specs.Cmp.{IsTotalOrder, both_tied}
 use Rattle.std.specs.declared.cmp.Ordering.{Ordering}
 use Rattle.std.specs.declared.cmp.Ordering.TheVariants.{Less, Equal, Greater}
@@ -8,6 +8,7 @@ use Rattle.std.specs.FinMap.Entries.{find, put, by_order}
 use Rattle.std.specs.List.{list_any, AllByRecursion}
 use Rattle.std.specs.Map.{keys_of, lookup}
 use Rattle.std.specs.Ordering.{is_eq, nat_cmp}
+use Rattle.std.proofs.lemmas.Bool.{cases_eq, ne_eqb, false≢true}
 use Rattle.std.proofs.lemmas.Bool.Decides.{nat_tests}
 use Rattle.std.proofs.lemmas.Cmp.{nat_cmp_total, on_total, then_total}
 use Rattle.std.proofs.lemmas.List.{nil_from_length}
@@ -33,16 +34,25 @@ find_answer (e ∷ es) q = λ i. cond (sym (both_tied _ _ (nat_cmp q.0 e.0.0) (n
 pub fault_at-from_entries : (es : List ((ℕ × ℕ) × ℕ)) (channel number : ℕ) → fault_at (from_entries es) channel number ≡ lookup (same_answer (channel, number)) es
 fault_at-from_entries es channel number = get-from_entries answers_total es (channel, number) ∙ find_answer es (channel, number)
 
--- no key is of a channel past the 12
-lookup_past : (es : List ((ℕ × ℕ) × ℕ)) (channel number : ℕ) → AllByRecursion (λ k. k.0 < 12) (keys_of es) → 12 ≤ channel → lookup (same_answer (channel, number)) es ≡ None
-lookup_past [] channel number h past = refl
-lookup_past (e ∷ es) channel number h past =
-    let apart : nat_eq channel e.0.0 ≡ false = grind (arith, nat_tests, h.0) in
-    ap (λ b. cond (b && nat_eq number e.0.1) (Some e.1) (lookup (same_answer (channel, number)) es)) apart ∙ lookup_past es channel number h.1 past
+-- channels with unlike flags are two
+unlike_flags : (named : List Bool) (m n : ℕ) → slice_index_or named m false ≡ false → slice_index_or named n false ≡ true → nat_eq m n ≡ false
+unlike_flags named m n h k =
+    elim (cases_eq m n) [
+      | inl same ↦ absurd (false≢true (sym h ∙ ap (λ i. slice_index_or named i false) same ∙ k))
+      | inr other ↦ ne_eqb m n other
+    ]
 
--- where each entry is of one of the 12 channels, no answer past them has one
-pub fault_at-past : (es : List ((ℕ × ℕ) × ℕ)) (channel number : ℕ) → All (λ k. k.0 < 12) (keys_of es) → 12 ≤ channel → fault_at (from_entries es) channel number ≡ None
-fault_at-past es channel number h past = fault_at-from_entries es channel number ∙ lookup_past es channel number (recursion_from_All (λ k. k.0 < 12) (keys_of es) h) past
+-- no key is of a channel whose flag isn't set
+lookup_unnamed : (named : List Bool) (es : List ((ℕ × ℕ) × ℕ)) (channel number : ℕ) → AllByRecursion (λ k. slice_index_or named k.0 false ≡ true) (keys_of es) → slice_index_or named channel false ≡ false → lookup (same_answer (channel, number)) es ≡ None
+lookup_unnamed named [] channel number h unnamed = refl
+lookup_unnamed named (e ∷ es) channel number h unnamed =
+    let apart : nat_eq channel e.0.0 ≡ false = unlike_flags named channel e.0.0 unnamed h.0 in
+    ap (λ b. cond (b && nat_eq number e.0.1) (Some e.1) (lookup (same_answer (channel, number)) es)) apart ∙ lookup_unnamed named es channel number h.1 unnamed
+
+-- where each entry is of a channel whose flag is set, no answer of another has one
+pub fault_at-unflagged : (named : List Bool) (es : List ((ℕ × ℕ) × ℕ)) (channel number : ℕ) → All (λ k. slice_index_or named k.0 false ≡ true) (keys_of es) → slice_index_or named channel false ≡ false → fault_at (from_entries es) channel number ≡ None
+fault_at-unflagged named es channel number h unnamed =
+    fault_at-from_entries es channel number ∙ lookup_unnamed named es channel number (recursion_from_All (λ k. slice_index_or named k.0 false ≡ true) (keys_of es) h) unnamed
 
 -- one test twice, and two tests in turn
 repeated : (a b : Bool) → (a || b) ≡ (a || (a || b))

@@ -15,6 +15,8 @@ const CHANNELS: u8 = 12;
 pub struct Faults {
     /// None in the book that `none` makes, which needs no allocator and takes no memory.
     entries: Option<IndexMap<(u8, u64), u32>>,
+    /// For each channel whether it may have an entry, so that the others are never looked up.
+    named: [bool; 12],
 }
 
 impl Model for Faults {
@@ -24,11 +26,11 @@ impl Model for Faults {
 
     ghost coded = { coded_book };
 
-    ghost use Rattle.fault_book.specs.Invariant.{book_of_entries, AreChannels};
+    ghost use Rattle.fault_book.specs.Invariant.{book_of_entries, IsConsistent};
 
     ghost view = { λ faults. book_of_entries faults.entries };
 
-    ghost invariant = { λ faults. AreChannels faults.entries };
+    ghost invariant = { λ faults. IsConsistent faults.named faults.entries };
 }
 
 impl Faults {
@@ -36,7 +38,10 @@ impl Faults {
     pub fn none() -> Faults
         ensures { result ≡ empty }
     {
-        Faults { entries: None }
+        Faults {
+            entries: None,
+            named: [false; 12],
+        }
     }
 
     /// The book that has exactly these entries, each a channel, the number of an answer and a value. AllocError where
@@ -47,11 +52,14 @@ impl Faults {
         ensures { IfOk result (λ faults. faults ≡ from_entries (map (λ e. ((e.0, e.1), e.2)) entries.now)) }
     {
         let mut made = IndexMap::new(alloc);
+        let mut named = [false; 12];
         for (channel, number, value) in entries {
             made.insert((*channel, *number), *value)?;
+            named[usize::from(*channel)] = true;
         }
         Ok(Faults {
             entries: Some(made),
+            named,
         })
     }
 
@@ -60,8 +68,10 @@ impl Faults {
         ensures { result ≡ fault_at self.now channel number }
     {
         let entries = self.entries.as_ref()?;
-        let channel = u8::try_from(channel).ok()?;
-        entries.get(&(channel, number)).copied()
+        if self.named.len() <= channel || !self.named[channel] {
+            return None;
+        }
+        entries.get(&(channel as u8, number)).copied()
     }
 
     /// Whether the channel has an entry.

@@ -1,22 +1,11 @@
-use Rattle.std.proofs.Common.{◌≡◌, ◌<◌, ◌≤◌, ℕ, [], Some, Result, Ok, Err, false, true≢false, ◌∙◌, sym, ap, subst, is_some, arith}
-use Rattle.std.specs.Map.{lookup}
+use Rattle.std.proofs.Common.{◌≡◌, [], Some, false, slice_index_or, ◌∙◌, sym, ap, subst, rules, tests, arith}
+use Rattle.std.proofs.lemmas.List.{get_or_past}
 use Rattle.std.specs.Option.{option_copied}
-use Rattle.std.specs.Result.{OkIff, is_ok, result_ok}
 use Rattle.fault_book.specs.Book.{fault_at}
-use Rattle.fault_book.specs.Invariant.{book_of_entries, AreChannels}
-use Rattle.fault_book.proofs.BookLemmas.{fault_at-from_entries, fault_at-past}
-use Rattle.fault_book.proofs.EntryLemmas.{same_answer}
+use Rattle.fault_book.specs.Invariant.{book_of_entries, AreNamed}
+use Rattle.fault_book.proofs.BookLemmas.{fault_at-from_entries, fault_at-unflagged}
 use Rattle.fault_book.proofs.faults.Faults.answer.Goals as goal
-
--- a number that no byte holds
-too_large : {E : Type 0} (r : Result ℕ E) (n : ℕ) → OkIff r (n < 256) n → is_ok r ≡ false → 256 ≤ n
-too_large (Ok x) n h e = absurd (true≢false e)
-too_large (Err d) n h e = omega (arith, h)
-
--- a number that a byte holds, as a byte
-as_byte : {E : Type 0} (r : Result ℕ E) (n x : ℕ) → OkIff r (n < 256) n → result_ok r ≡ Some x → x ≡ n
-as_byte (Ok y) n x h e = cc
-as_byte (Err d) n x h e = cc
+use Rattle.fault_book.proofs.faults.Faults.answer.Goals.{then-channel-ge12-via-then-channel-ge12, then-channel-ge12-via-else-channel-ge12+then-not-self-channel}
 
 pub returns-in_err-entries : goal.returns-in_err-entries
 returns-in_err-entries c =
@@ -24,19 +13,20 @@ returns-in_err-entries c =
     c.from_residual.ensures ∙ sym (fault_at-from_entries [] c.args.channel c.args.number)
     ∙ ap (λ book. fault_at book c.args.channel c.args.number) (sym (ap book_of_entries entries) ∙ c.self.view_is)
 
-pub returns-in_err-channel : goal.returns-in_err-channel
-returns-in_err-channel c =
-    let past : 256 ≤ c.args.channel = too_large c.try_from.result c.args.channel c.try_from.ensures (sym c.ok.ensures.variant ∙ ap is_some c.in_err-channel.was) in
+pub returns-then-channel-ge12 : goal.returns-then-channel-ge12
+returns-then-channel-ge12 c =
+    let named = c.self.inside.named in
     let entries : c.self.inside.entries ≡ Some c.in_ok-entries.entries.now = sym c.as_ref.ensures.value ∙ ap option_copied c.in_ok-entries.was in
-    c.from_residual-in_err-channel.ensures
-    ∙ sym (fault_at-past c.in_ok-entries.entries.now.entries c.args.channel c.args.number (subst AreChannels entries c.self.invariant) (omega arith))
+    let unnamed : slice_index_or named c.args.channel false ≡ false = elim c.then-channel-ge12.branch [
+      | then-channel-ge12-via-then-channel-ge12 w ↦ get_or_past named c.args.channel false (omega (arith, c.self.invariant.twelve))
+      | then-channel-ge12-via-else-channel-ge12+then-not-self-channel w ↦ search (rules, tests)
+    ] in
+    sym (fault_at-unflagged named c.in_ok-entries.entries.now.entries c.args.channel c.args.number (subst (AreNamed named) entries c.self.invariant.flags) unnamed)
     ∙ ap (λ book. fault_at book c.args.channel c.args.number) (sym (ap book_of_entries entries) ∙ c.self.view_is)
 
 pub returns : goal.returns
 returns c =
     let entries : c.self.inside.entries ≡ Some c.in_ok-entries.entries.now = sym c.as_ref.ensures.value ∙ ap option_copied c.in_ok-entries.was in
-    let channel = as_byte c.try_from.result c.args.channel c.in_ok-channel.channel c.try_from.ensures (sym c.ok.ensures.value ∙ c.in_ok-channel.was) in
     c.copied.ensures ∙ c.get.ensures.value
-    ∙ ap (λ (n : ℕ). lookup (same_answer (n, c.args.number)) c.in_ok-entries.entries.now.entries) channel
     ∙ sym (fault_at-from_entries c.in_ok-entries.entries.now.entries c.args.channel c.args.number)
     ∙ ap (λ book. fault_at book c.args.channel c.args.number) (sym (ap book_of_entries entries) ∙ c.self.view_is)
