@@ -44,3 +44,12 @@ FetchLeaves shelf name limit Whole bytes faults = (length bytes ≤ limit) × Ag
 FetchLeaves shelf name limit TooLong bytes faults = (bytes ≡ []) × AgreesLonger shelf name limit × (faults ≡ shelf.faults)
 FetchLeaves shelf name limit Failed bytes faults = (bytes ≡ []) × ((TellsMissing shelf name × (faults ≡ shelf.faults)) ⊎ (¬ (TellsMissing shelf name) × Rose shelf.faults faults))
 FetchLeaves shelf name limit NoMemory bytes faults = (bytes ≡ []) × (faults ≡ shelf.faults)
+
+-- One fetch of a name up to a limit, with this answer and these bytes, leads from one shelf to another. `fetches` says to
+-- which shelves one may lead, and `state` what each of them shows.
+pub record IsFetch {S : Type 0} (fetches : S → List ℕ → ℕ → Fetch → List ℕ → S → Type 0) (state : S → ShelfState) (old : S) (name : List ℕ) (limit : ℕ)
+    (answer : Fetch) (bytes : List ℕ) (new : S) : Type 0 where
+  pub leads : fetches old name limit answer bytes new
+  pub leaves : FetchLeaves (state old) name limit answer bytes (state new).faults
+  pub grows : (state old).faults ≤ (state new).faults
+  pub told : (state new).told ≡ (state old).told

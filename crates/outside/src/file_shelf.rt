@@ -40,7 +40,7 @@ impl<'a, R: Files> Shelf for FileShelf<'a, R> {
     ghost state = { λ shelf. shelf };
 
     // A file system keeps no list of what it holds.
-    ghost fetched = { λ _ _ _. Unit {0} };
+    ghost fetches = { λ _ _ _ _ _ _. Unit {0} };
 
     fn fetch(&mut self, _alloc: Global, name: &str, limit: usize, into: &mut Vec<u8>) -> Fetch {
         match read_opened(fs::open(self.rt, name), limit, into) {

@@ -1,6 +1,6 @@
 ghost use Rattle.std.specs.Prelude.{◌≡◌, ◌≤◌, [], map, string_bytes, option_map, vec_capacity};
-ghost use Rattle.outside.specs.Faults.{next_count};
 ghost use Rattle.plain_text.specs.Lookup.{lookup};
+ghost use Rattle.outside.specs.Faults.{next_count};
 ghost use Rattle.outside.specs.Shelf.{FetchLeaves};
 ghost use Rattle.outside.specs.Memory.{MemoryFiles, CopyLeaves, FetchAnswers, after_fetch, next_fails, shelf_state};
 
@@ -51,13 +51,13 @@ impl MemoryShelf {
 impl Shelf for MemoryShelf {
     ghost state = { shelf_state };
 
-    ghost fetched = { λ old name new. new ≡ after_fetch old name };
+    ghost fetches = { λ old name limit answer bytes new. new ≡ after_fetch old name };
 
     fn fetch(&mut self, _alloc: Global, name: &str, limit: usize, into: &mut Vec<u8>) -> Fetch
         ensures leaves { FetchLeaves (shelf_state self.old) name.now limit result into.new.items self.new.faults }
         ensures grows { self.old.faults ≤ self.new.faults }
         ensures told { (shelf_state self.new).told ≡ (shelf_state self.old).told }
-        ensures fetched { self.new ≡ after_fetch self.old name.now }
+        ensures leads { self.new ≡ after_fetch self.old name.now }
         ensures answer { FetchAnswers self.old limit (vec_capacity into.old) (lookup name.now self.old.files) result }
     {
         into.clear();

@@ -18,11 +18,13 @@ pub enum Fetch {
 
 /// Files by name.
 pub trait Shelf {
+    ghost use Rattle.outside.specs.declared.shelf.Fetch.{Fetch};
+
     /// The count of faults, and what the shelf holds where it tells that.
     ghost state: { Self → ShelfState };
 
-    /// One fetch of this name may lead from this shelf to that one.
-    ghost fetched: { Self → List ℕ → Self → Type 0 };
+    /// One fetch of this name up to this limit, with this answer and these bytes, may lead from this shelf to that one.
+    ghost fetches: { Self → List ℕ → ℕ → Fetch → List ℕ → Self → Type 0 };
 
     /// Reads the file of a name into the buffer, in place of what was there, up to a limit of bytes.
     fn fetch(&mut self, alloc: Global, name: &str, limit: usize, into: &mut Vec<u8>) -> Fetch
@@ -31,7 +33,7 @@ pub trait Shelf {
         ensures grows { (state self.old).faults ≤ (state self.new).faults }
         // What the shelf holds stays as it was.
         ensures told { (state self.new).told ≡ (state self.old).told }
-        ensures fetched { fetched self.old name.now self.new };
+        ensures leads { fetches self.old name.now limit result into.new.items self.new };
 }
 
 #[cfg(test)]
