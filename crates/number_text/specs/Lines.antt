@@ -2,6 +2,10 @@
 use Rattle.std.specs.Prelude.{ℕ, ℤ, List, [], ◌∷◌, ◌++◌, map}
 use Rattle.std.specs.Fmt.{signed_decimal}
 
+-- the most bytes of a line that is built of words and numbers
+abbrev pub room : ℕ
+room = 320
+
 -- a line of bytes
 abbrev pub line : List ℕ → List ℕ
 line bytes = bytes ++ 10 ∷ []

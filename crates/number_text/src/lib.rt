@@ -1,11 +1,11 @@
-//! Integers as lines of text.
+//! Lines of text with numbers in them.
 //!
-//! In comes an integer, out goes its decimal text with LF behind it. Each crate that prints integers stands on
-//! this one; it stands on the kit's `arrayvec` and `itoa` alone.
+//! In come words and numbers, out goes a line that ends with LF. Whoever prints numbers builds the lines here; the crate
+//! stands on the kit's `arrayvec` and `itoa` alone, and takes no memory.
 #![tactic(auto)]
 
-mod lines;
+mod line;
 #[cfg(test)]
 mod tests;
 
-pub use lines::line_of;
+pub use line::{Line, line_of};
