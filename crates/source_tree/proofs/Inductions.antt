@@ -133,5 +133,6 @@ module _ (meant : Expr → Evaluation) (P : Execution → Type 0)
       (while_loop condition limit (map (execution_by meant) body) line (mapped body h)))
       (λ x arguments line. at_statement (Call x arguments line) _ (execution-Call meant x arguments line) (call x arguments line))
 
-  pub each_in_order : (l : List Statement) → EachOf P (map (execution_by meant) l)
-  each_in_order l = mapped l (each_of (λ s. P (execution_by meant s)) each_execution l)
+pub each_in_order : (meant : Expr → Evaluation) (P : Execution → Type 0)
+    → ((s : Statement) → P (execution_by meant s)) → (l : List Statement) → EachOf P (map (execution_by meant) l)
+each_in_order meant P h l = each_mapped P (execution_by meant) l (each_of (λ s. P (execution_by meant s)) h l)

@@ -44,6 +44,7 @@ arithmetic_means = rw (
 )
 
 -- print 97 div -5; print 97 mod -5; print -97 div 5; print -97 mod 5;
+-- print -97 div -5; print -97 mod -5;
 abbrev division : Program
 division = record {
   declarations = [];
@@ -51,10 +52,12 @@ division = record {
       Print (Binary (Number (pos 97) 1) Div (Neg (Number (pos 5) 1) 1) 1) 1 ∷
       Print (Binary (Number (pos 97) 1) Mod (Neg (Number (pos 5) 1) 1) 1) 1 ∷
       Print (Binary (Neg (Number (pos 97) 1) 1) Div (Number (pos 5) 1) 1) 1 ∷
-      Print (Binary (Neg (Number (pos 97) 1) 1) Mod (Number (pos 5) 1) 1) 1 ∷ [];
+      Print (Binary (Neg (Number (pos 97) 1) 1) Mod (Number (pos 5) 1) 1) 1 ∷
+      Print (Binary (Neg (Number (pos 97) 2) 2) Div (Neg (Number (pos 5) 2) 2) 2) 2 ∷
+      Print (Binary (Neg (Number (pos 97) 2) 2) Mod (Neg (Number (pos 5) 2) 2) 2) 2 ∷ [];
 }
 
-pub division_means : outcome (meaning division []) ≡ ((negsuc 19 ∷ negsuc 2 ∷ negsuc 19 ∷ pos 3 ∷ []), None)
+pub division_means : outcome (meaning division []) ≡ ((negsuc 19 ∷ negsuc 2 ∷ negsuc 19 ∷ pos 3 ∷ pos 19 ∷ negsuc 1 ∷ []), None)
 division_means = rw (
   execution-Print,
   evaluation-Binary,
@@ -75,6 +78,18 @@ division_means = rw (
   evaluation-Binary,
   evaluation-Neg,
   evaluation-Number,
+  evaluation-Number,
+  execution-Print,
+  evaluation-Binary,
+  evaluation-Neg,
+  evaluation-Number,
+  evaluation-Neg,
+  evaluation-Number,
+  execution-Print,
+  evaluation-Binary,
+  evaluation-Neg,
+  evaluation-Number,
+  evaluation-Neg,
   evaluation-Number,
 )
 

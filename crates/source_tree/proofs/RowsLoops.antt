@@ -121,7 +121,7 @@ first_bound_traps_first = rw (execution-For, evaluation-Element, evaluation-Numb
 
 -- var i: 0..9;
 -- proc p() do i := 7; end
--- for i := 1 to 2 do p(); print i; end
+-- for i := 1 to 2 do print i; p(); print i; end
 abbrev called_in_a_loop : Program
 called_in_a_loop = record {
   declarations =
@@ -129,19 +129,21 @@ called_in_a_loop = record {
       Proc (named (codes "p") 2) [] [] (Assign (AtName (named (codes "i") 2)) (Number (pos 7) 2) 2 ∷ []) 2 ∷ [];
   statements =
       For (named (codes "i") 3) (Number (pos 1) 3) (Number (pos 2) 3)
-      (Call (named (codes "p") 3) [] 3 ∷ Print (Name (named (codes "i") 3)) 3 ∷ []) 3 ∷ [];
+      (Print (Name (named (codes "i") 3)) 3 ∷
+      Call (named (codes "p") 3) [] 3 ∷
+      Print (Name (named (codes "i") 3)) 3 ∷ []) 3 ∷ [];
 }
 
-pub called_in_a_loop_means : outcome (meaning called_in_a_loop []) ≡ ((pos 7 ∷ pos 7 ∷ []), None)
+pub called_in_a_loop_means : outcome (meaning called_in_a_loop []) ≡ ((pos 1 ∷ pos 7 ∷ pos 2 ∷ pos 7 ∷ []), None)
 called_in_a_loop_means = rw (
   execution-For,
   evaluation-Number,
   evaluation-Number,
+  execution-Print,
+  evaluation-Name,
   execution-Call,
   execution-Assign,
   evaluation-Number,
-  execution-Print,
-  evaluation-Name,
 )
 
 -- var x: 0..20;

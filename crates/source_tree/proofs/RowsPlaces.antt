@@ -30,6 +30,10 @@ reading_too_large = rw execution-Read
 pub reading_seven : outcome (meaning reading (pos 7 ∷ [])) ≡ ((pos 7 ∷ []), None)
 reading_seven = rw (execution-Read, execution-Print, evaluation-Name)
 
+-- the statement, and the print of two
+pub reading_takes_three_visits : visits (meaning reading (pos 7 ∷ [])) ≡ 3
+reading_takes_three_visits = rw (execution-Read, execution-Print, evaluation-Name)
+
 -- var x: 0..9;
 -- var y: 0..9;
 -- read x; read y;
@@ -112,6 +116,34 @@ one_of_two = record {
 
 pub one_of_two_is_set : outcome (meaning one_of_two []) ≡ ((pos 0 ∷ pos 7 ∷ []), None)
 one_of_two_is_set = rw (
+  execution-Assign,
+  evaluation-Number,
+  evaluation-Number,
+  execution-Print,
+  evaluation-Element,
+  evaluation-Number,
+  execution-Print,
+  evaluation-Element,
+  evaluation-Number,
+)
+
+-- array a[2]: 0..9;
+-- array b[2]: 0..9;
+-- b[0] := 7;
+-- print a[0]; print b[0];
+abbrev two_arrays : Program
+two_arrays = record {
+  declarations =
+      Array (named (codes "a") 1) (pos 2) (from_to (pos 0) (pos 9)) 1 ∷
+      Array (named (codes "b") 2) (pos 2) (from_to (pos 0) (pos 9)) 2 ∷ [];
+  statements =
+      Assign (AtElement (named (codes "b") 3) (Number (pos 0) 3)) (Number (pos 7) 3) 3 ∷
+      Print (Element (named (codes "a") 4) (Number (pos 0) 4)) 4 ∷
+      Print (Element (named (codes "b") 4) (Number (pos 0) 4)) 4 ∷ [];
+}
+
+pub two_arrays_stay_apart : outcome (meaning two_arrays []) ≡ ((pos 0 ∷ pos 7 ∷ []), None)
+two_arrays_stay_apart = rw (
   execution-Assign,
   evaluation-Number,
   evaluation-Number,

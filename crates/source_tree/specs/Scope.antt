@@ -49,11 +49,12 @@ with_all_declared k [] scope = scope
 with_all_declared k (d ∷ declarations) scope = with_all_declared (k + names_in d) declarations (with_declared k d scope)
 
 -- ---- what a name stands for
+abbrev pub is_within : ℤ → Range → Bool
+is_within x range = int_le range.low x && int_le x range.high
+
 -- Where the rules of names are kept, each name that is used is declared as what it is used for. Elsewhere a value is 0, a
 -- range is empty and a length is 0, so that what is put there traps by its range or its index, as does an element that is
 -- read; a number for the bare name of an array changes nothing.
-abbrev pub is_within : ℤ → Range → Bool
-is_within x range = int_le range.low x && int_le x range.high
 
 -- a variable, parameter or local
 abbrev pub integer_of : Option Declared → State → ℤ
@@ -68,10 +69,11 @@ with_integer_of (Some (array k len range)) value state = state
 with_integer_of (Some (procedure k params)) value state = state
 with_integer_of None value state = state
 
--- the range of a variable, parameter, local or element
+-- a range without an integer
 abbrev pub empty_range : Range
 empty_range = record { low = pos 1; high = pos 0 }
 
+-- the range of a variable, parameter, local or element
 abbrev pub range_of : Option Declared → Range
 range_of (Some (variable k range)) = range
 range_of (Some (array k len range)) = range

@@ -49,12 +49,12 @@ compared left comparison right scope calls state =
     returns (holds comparison x y))))
 
 -- ---- places
--- A value is put into a place: first the test of its range, by a trap of a kind and a line; then, for an element, its
--- number and the test of that, by a trap at a line of its own.
+-- a value into a variable, parameter or local, or a trap where its range hasn't it
 abbrev pub put_into_name : List ℕ → ℤ → Kind → ℕ → Scope → State → Run ⊤
 put_into_name x value trap line scope state =
     if is_within value (range_at scope x) then nothing_done (with_integer_at scope x value state) else traps trap line
 
+-- a value into element i, or a trap where there is none of this number
 abbrev pub put_into_element : Option Declared → ℤ → ℕ → ℤ → State → Run ⊤
 put_into_element a value index_line i state =
     if has_element a i then nothing_done (with_element_of a i value state) else traps kind.Index index_line
@@ -113,6 +113,8 @@ module _ (meant : Expr → Evaluation) where
   abbrev pub test_of : Condition → Test
   test_of condition = compared (meant condition.left) condition.comparison (meant condition.right)
 
+  -- A value into a place. The range comes first, with a trap of a kind and a line; then an element's number, with a trap
+  -- at a line of its own.
   abbrev pub put_into : Place → ℤ → Kind → ℕ → ℕ → Execution
   put_into (Name name) value trap line index_line scope calls state = put_into_name name.bytes value trap line scope state
   put_into (Element name index) value trap line index_line scope calls state =
