@@ -1,0 +1,4 @@
+pub use Rattle.source_lexer.specs.Scan
+pub use Rattle.source_tree.specs.Meaning
+pub use Rattle.source_parser.specs.Parsed
+pub mod Reading
