@@ -1,2 +1,2 @@
-pub mod Endings
-pub mod FileAnswers
+pub mod EndingLemmas
+pub mod FileLemmas

@@ -2,6 +2,9 @@ pub use Rattle.outside.specs.Faults
 pub use Rattle.outside.specs.Shelf
 pub use Rattle.outside.specs.Sink
 pub use Rattle.number_text.specs.Lines
+pub use Rattle.source_reader.specs.Reading
+pub use Rattle.word_readers.specs.Operands
 pub mod StatusNumber
 pub mod Endings
 pub mod Files
+pub mod Refusals

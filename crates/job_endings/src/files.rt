@@ -1,40 +1,87 @@
-ghost use Rattle.std.specs.Prelude.{◌≡◌, ◌≤◌, ◌⊎◌, OnErr, OnOk, IfErr, IfOk, length};
-ghost use Rattle.outside.specs.Faults.{Rose};
-ghost use Rattle.outside.specs.Shelf.{AgreesWhole, ShelfFiles, TellsMissing, file_of};
-ghost use Rattle.job_endings.specs.Endings.{StatusLeaves};
-ghost use Rattle.job_endings.specs.Files.{Agrees, IsStrayOf, NoAnswer, WithFile, file_limit};
+ghost use Rattle.std.specs.Prelude.{◌≡◌, ◌≤◌, All, IfErr, IfOk, IfSome, MatchResult, Ok, Err, length, map, string_bytes};
+ghost use Rattle.outside.specs.declared.shelf.Fetch.TheVariants.{Whole};
+ghost use Rattle.outside.specs.Shelf.{IsFetch};
+ghost use Rattle.word_readers.specs.Operands.{IsFileWord, file_name};
+ghost use Rattle.job_endings.specs.Files.{FetchesFiles, GivesStop, GivesText, StopsAt, file_limit, most_files};
+ghost use Rattle.job_endings.specs.Refusals.{IsStopOfWords};
 
-use crate::ending::finish_with_name;
-use crate::status::Status;
-use outside::{Fetch, Shelf, Sink};
+use crate::refusal::{Refusal, Stop};
+use arrayvec::ArrayVec;
+use outside::{Fetch, Shelf};
 use std::alloc::Global;
+use word_readers::{FileWord, name_of};
 
 /// The most bytes that a file may have.
 const FILE_LIMIT: usize = 4_194_304;
 
-/// The text of a file that a job wants. Where it can't be had, the refusal is put, and the error is the status
-/// with which the job ends.
-pub fn text_of<S: Shelf, K: Sink>(
+/// The most files that a job has.
+pub const MOST_FILES: usize = 5;
+
+/// The texts of a job, in the order of its files. That of a file that isn't named is empty.
+pub type Texts = ArrayVec<Vec<u8>, MOST_FILES, Global>;
+
+/// The texts of files, fetched in order, each once. The first that isn't whole ends it.
+pub fn fetch_all<S: Shelf>(
     alloc: Global,
-    name: &str,
+    words: &[String],
+    files: &[Option<FileWord>],
     shelf: &mut S,
-    sink: &mut K,
-) -> Result<Vec<u8>, Status>
-    ensures whole { IfOk result (λ text. (length text.items ≤ file_limit) × AgreesWhole (S.state shelf.old) name.now text.items) }
-    ensures quiet { OnOk result (((S.state shelf.new).faults ≡ (S.state shelf.old).faults) × (sink.new ≡ sink.old)) }
-    ensures refused { IfErr result (λ status. (held : ShelfFiles) × Agrees (S.state shelf.old).told held
-        × StatusLeaves K.puts K.state sink.old (WithFile (file_of held name.now) name.now NoAnswer)
-        (IsStrayOf (S.state shelf.old).faults (S.state shelf.new).faults name.now) status sink.new) }
-    ensures unread { IfErr result (λ status. status ≡ Status.Unread → Rose (S.state shelf.old).faults (S.state shelf.new).faults
-        ⊎ TellsMissing (S.state shelf.old) name.now) }
-    ensures fetched { S.fetched shelf.old name.now shelf.new }
-    ensures told { (S.state shelf.new).told ≡ (S.state shelf.old).told }
+) -> Result<Texts, Stop>
+    requires few { length files.now ≤ most_files }
+    requires words { All (λ file. IfSome file (IsFileWord (map string_bytes words.now))) files.now }
+    ensures fetched { MatchResult result
+        (λ texts. FetchesFiles S.fetches S.state (map string_bytes words.now) shelf.old files.now (Ok (map (λ text. text.items) texts.items)) shelf.new)
+        (λ stop. FetchesFiles S.fetches S.state (map string_bytes words.now) shelf.old files.now (Err stop) shelf.new) }
+    ensures short { IfOk result (λ texts. All (λ text. length text.items ≤ file_limit) texts.items) }
+    ensures words { IfErr result (IsStopOfWords (map string_bytes words.now)) }
+{
+    let mut texts = ArrayVec::new_in(alloc);
+    for file in files {
+        match fetch_named(alloc, words, *file, shelf) {
+            Ok(text) => texts.push(text),
+            Err(stop) => return Err(stop),
+        }
+    }
+    Ok(texts)
+}
+
+/// The text of one file, and the empty text where none is named.
+fn fetch_named<S: Shelf>(
+    alloc: Global,
+    words: &[String],
+    file: Option<FileWord>,
+    shelf: &mut S,
+) -> Result<Vec<u8>, Stop>
+    requires { IfSome file (IsFileWord (map string_bytes words.now)) }
+    ensures whole { IfOk result (λ text. GivesText S.fetches S.state (map string_bytes words.now) shelf.old file text.items shelf.new) }
+    ensures short { IfOk result (λ text. length text.items ≤ file_limit) }
+    ensures stops { IfErr result (λ stop. GivesStop S.fetches S.state (map string_bytes words.now) shelf.old file stop shelf.new) }
+    ensures words { IfErr result (IsStopOfWords (map string_bytes words.now)) }
+{
+    match file {
+        Some(file) => fetch_one(alloc, words, file, shelf),
+        None => Ok(Vec::new(alloc)),
+    }
+}
+
+/// The text of one file.
+fn fetch_one<S: Shelf>(
+    alloc: Global,
+    words: &[String],
+    file: FileWord,
+    shelf: &mut S,
+) -> Result<Vec<u8>, Stop>
+    requires { IsFileWord (map string_bytes words.now) file }
+    ensures whole { IfOk result (λ text. IsFetch S.fetches S.state shelf.old (file_name (map string_bytes words.now) file) file_limit Whole text.items shelf.new) }
+    ensures short { IfOk result (λ text. length text.items ≤ file_limit) }
+    ensures stops { IfErr result (λ stop. StopsAt S.fetches S.state (map string_bytes words.now) shelf.old file stop shelf.new) }
+    ensures words { IfErr result (IsStopOfWords (map string_bytes words.now)) }
 {
     let mut text = Vec::new(alloc);
-    match shelf.fetch(alloc, name, FILE_LIMIT, &mut text) {
+    match shelf.fetch(alloc, name_of(words, file), FILE_LIMIT, &mut text) {
         Fetch::Whole => Ok(text),
-        Fetch::TooLong => Err(finish_with_name(alloc, sink, b"too long ", name, Status::TooLong)),
-        Fetch::Failed => Err(finish_with_name(alloc, sink, b"unread ", name, Status::Unread)),
-        Fetch::NoMemory => Err(Status::NoMemory),
+        Fetch::TooLong => Err(Stop::Refused(Refusal::TooLong(file))),
+        Fetch::Failed => Err(Stop::Refused(Refusal::Unread(file))),
+        Fetch::NoMemory => Err(Stop::NoMemory),
     }
 }

@@ -1,15 +1,17 @@
-//! How jobs end.
+//! How jobs end: the files that they want, their refusals, their lines and their statuses.
 //!
-//! A job puts pieces into a sink and ends with a status. Here are the statuses, the ends that many jobs have, and the
-//! file that a job wants: its text comes out, or the job ends. The crate stands on `outside` and knows no command.
+//! A job's files are fetched in order, and its texts come out, or why there are none. A refusal is a value until it is put:
+//! one line and a status, all of them in one table. What is printed at once goes into a sink line by line. The crate stands
+//! on `outside`, `number_text`, `source_reader` for what sources are refused for, and `word_readers` for the words that name
+//! files; it knows no command.
 #![tactic(auto)]
 
-mod ending;
 mod files;
 mod lines;
+mod refusal;
 mod status;
 
-pub use ending::finish;
-pub use files::text_of;
-pub use lines::{ROOM, append};
+pub use files::{MOST_FILES, Texts, fetch_all};
+pub use lines::put_lines;
+pub use refusal::{Refusal, Stop, put_refusal};
 pub use status::Status;

@@ -1,0 +1,56 @@
+-- The table of refusals: the line and the status of each.
+use Rattle.std.specs.Prelude.{ℕ, Bool, true, false, List, ◌++◌, codes}
+use Rattle.std.specs.Fmt.{decimal}
+use Rattle.number_text.specs.Lines.{line}
+use Rattle.source_reader.specs.declared.fault.SourceFault.{SourceFault}
+use Rattle.source_reader.specs.declared.fault.SourceKind.{SourceKind}
+use Rattle.source_reader.specs.declared.fault.SourceKind.TheVariants.{Byte, LongNumber, Syntax, TooDeep, Unbuilt}
+use Rattle.word_readers.specs.Operands.{IsFileWord, file_name}
+use Rattle.job_endings.specs.declared.status.Status.{Status}
+use Rattle.job_endings.specs.declared.status.Status.TheVariants as status
+use Rattle.job_endings.specs.declared.refusal.Refusal.{Refusal}
+use Rattle.job_endings.specs.declared.refusal.Refusal.TheVariants.{Usage, Unread, TooLong, Source}
+use Rattle.job_endings.specs.declared.refusal.Stop.{Stop}
+use Rattle.job_endings.specs.declared.refusal.Stop.TheVariants.{Refused, NoMemory}
+
+-- what is wrong with a source, as it is printed
+abbrev pub kind_text : SourceKind → List ℕ
+kind_text Byte = codes "byte"
+kind_text LongNumber = codes "long-number"
+kind_text Syntax = codes "syntax"
+kind_text TooDeep = codes "too-deep"
+kind_text Unbuilt = codes "unbuilt"
+
+abbrev pub source_line : SourceFault → List ℕ
+source_line fault = codes "refused source " ++ kind_text fault.kind ++ codes " " ++ decimal fault.line
+
+-- the line of a refusal; a file is named as the words name it
+abbrev pub refusal_line : List (List ℕ) → Refusal → List ℕ
+refusal_line words Usage = line (codes "usage")
+refusal_line words (Unread file) = line (codes "unread " ++ file_name words file)
+refusal_line words (TooLong file) = line (codes "too long " ++ file_name words file)
+refusal_line words (Source fault) = line (source_line fault)
+
+abbrev pub refusal_status : Refusal → Status
+refusal_status Usage = status.Usage
+refusal_status (Unread file) = status.Unread
+refusal_status (TooLong file) = status.TooLong
+refusal_status (Source fault) = status.SourceRefused
+
+-- whether the line of a refusal has the name of a file
+abbrev pub names_file : Refusal → Bool
+names_file Usage = false
+names_file (Unread file) = true
+names_file (TooLong file) = true
+names_file (Source fault) = false
+
+-- the file that a refusal names is named by the words
+abbrev pub IsOfWords : List (List ℕ) → Refusal → Type 0
+IsOfWords words Usage = Unit {0}
+IsOfWords words (Unread file) = IsFileWord words file
+IsOfWords words (TooLong file) = IsFileWord words file
+IsOfWords words (Source fault) = Unit {0}
+
+abbrev pub IsStopOfWords : List (List ℕ) → Stop → Type 0
+IsStopOfWords words (Refused refusal) = IsOfWords words refusal
+IsStopOfWords words NoMemory = Unit {0}

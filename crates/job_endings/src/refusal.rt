@@ -1,0 +1,118 @@
+ghost use Rattle.std.specs.Prelude.{◌≡◌, ◌≢◌, ◌++◌, [], ◌∷◌, false, IfOk, map, string_bytes};
+ghost use Rattle.number_text.specs.Lines.{line};
+ghost use Rattle.word_readers.specs.Operands.{IsFileWord, file_name};
+ghost use Rattle.job_endings.specs.Endings.{EndsPut, EndsWith};
+ghost use Rattle.job_endings.specs.Refusals.{IsOfWords, names_file, refusal_line, refusal_status, source_line};
+
+use crate::lines::put_lines;
+use crate::status::Status;
+use number_text::Line;
+use outside::{Put, Sink};
+use source_reader::{SourceFault, SourceKind};
+use std::alloc::{AllocError, Global};
+use word_readers::{FileWord, name_of};
+
+/// Why a job is refused: one line and a status.
+#[derive(Clone, Copy, Debug, PartialEq, Eq)]
+pub enum Refusal {
+    /// The words are no job.
+    Usage,
+    /// The file isn't there, or can't be read.
+    Unread(FileWord),
+    /// The file has more bytes than the limit.
+    TooLong(FileWord),
+    /// The source is refused.
+    Source(SourceFault),
+}
+
+/// Why a job stops before anything is put.
+#[derive(Clone, Copy, Debug, PartialEq, Eq)]
+pub enum Stop {
+    /// It is refused.
+    Refused(Refusal),
+    /// Memory ran out.
+    NoMemory,
+}
+
+/// Puts the line of a refusal, and ends with its status. Only a line with a file's name takes memory.
+pub fn put_refusal<K: Sink>(
+    alloc: Global,
+    words: &[String],
+    refusal: &Refusal,
+    sink: &mut K,
+) -> Status
+    requires { IsOfWords (map string_bytes words.now) refusal.now }
+    ensures line { EndsWith K.puts K.state sink.old (refusal_line (map string_bytes words.now) refusal.now ∷ [])
+        (refusal_status refusal.now) result sink.new }
+    ensures memory { names_file refusal.now ≡ false → result ≢ Status.NoMemory }
+{
+    match *refusal {
+        Refusal::Usage => put_lines(sink, &[Line::of(b"usage").end()], Status::Usage),
+        Refusal::Unread(file) => {
+            put_file_line(
+                alloc,
+                b"unread ",
+                name_of(words, file),
+                Status::Unread,
+                sink,
+            )
+        }
+        Refusal::TooLong(file) => {
+            put_file_line(
+                alloc,
+                b"too long ",
+                name_of(words, file),
+                Status::TooLong,
+                sink,
+            )
+        }
+        Refusal::Source(fault) => put_lines(sink, &[source_line(fault)], Status::SourceRefused),
+    }
+}
+
+/// Puts a line with a file's name, and ends with a status.
+fn put_file_line<K: Sink>(
+    alloc: Global,
+    text: &[u8],
+    name: &str,
+    status: Status,
+    sink: &mut K,
+) -> Status
+    ensures { EndsWith K.puts K.state sink.old (line (text.now ++ name.now) ∷ []) status result sink.new }
+{
+    match file_line(alloc, text, name) {
+        Ok(line) => match sink.put(line.as_slice()) {
+            Put::Done => status,
+            Put::Failed => Status::Unwritten,
+        },
+        Err(_) => Status::NoMemory,
+    }
+}
+
+/// A text, the name of a file, and LF.
+fn file_line(alloc: Global, text: &[u8], name: &str) -> Result<Vec<u8>, AllocError>
+    ensures { IfOk result (λ made. made.items ≡ line (text.now ++ name.now)) }
+{
+    let mut line = Vec::from_slice(alloc, text)?;
+    line.extend_from_slice(name.as_bytes())?;
+    line.push(b'\n')?;
+    Ok(line)
+}
+
+/// The line `refused source KIND LINE`.
+fn source_line(fault: SourceFault) -> Line
+    ensures { result ≡ line (source_line fault) }
+{
+    let kind: &[u8] = match fault.kind {
+        SourceKind::Byte => b"byte",
+        SourceKind::LongNumber => b"long-number",
+        SourceKind::Syntax => b"syntax",
+        SourceKind::TooDeep => b"too-deep",
+        SourceKind::Unbuilt => b"unbuilt",
+    };
+    Line::of(b"refused source ")
+        .text(kind)
+        .text(b" ")
+        .count(u64::from(fault.line))
+        .end()
+}
