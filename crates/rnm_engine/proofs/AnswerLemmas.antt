@@ -1,84 +1,196 @@
--- What the answer to words is, by the job that they ask for and by what the shelf holds.
-use Rattle.std.proofs.Common.{◌≡◌, ℕ, zero, suc, true, List, [], ◌∷◌, refl, Option, Some, None, MatchOption, sym, subst, inl, inr, ap}
-use Rattle.std.specs.Option.{option_map, option_map_or}
-use Rattle.outside.specs.Faults.{Rose}
-use Rattle.outside.specs.Shelf.{ShelfFiles, ShelfState, TellsMissing}
+-- What follows of every job from how it ends.
+use Rattle.std.proofs.Common.{◌≡◌, ℕ, ◌⊎◌, Bool, true, false, List, [], take, Option, Some, None, Result, Ok, Err, inl, inr, refl, sym, subst, ap, ◌∙◌}
+use Rattle.outside.specs.Shelf.{ShelfState}
+use Rattle.outside.specs.Sink.{BrokeOff, SinkState, WroteAll}
+use Rattle.outside.specs.declared.shelf.Fetch.{Fetch}
+use Rattle.outside.proofs.Runs.{WroteAll-none}
+use Rattle.word_readers.specs.declared.operands.FileWord.{FileWord}
 use Rattle.command_words.specs.declared.job.Job.{Job}
-use Rattle.command_words.specs.declared.job.Job.TheVariants.{Run, Decode, Encode, Mean, Set}
 use Rattle.command_words.specs.Words.{job_of_words}
-use Rattle.word_options.specs.Operands.{file_name}
-use Rattle.redundant_decoder.specs.declared.decoder.Verdict.{Verdict}
-use Rattle.redundant_decoder.specs.declared.decoder.Verdict.TheVariants.{Clean, Corrected, Damaged}
 use Rattle.job_endings.specs.declared.status.Status.{Status}
-use Rattle.job_endings.specs.declared.status.Status.TheVariants.{Usage}
-use Rattle.job_endings.specs.Files.{Agrees, IsStrayAmong, SomeName}
-use Rattle.job_endings.proofs.Endings.{is_whole}
-use Rattle.set_commands.specs.Decode.{verdict_status}
-use Rattle.source_refusals.specs.Refusal.{IsRefused}
-use Rattle.rnm_engine.specs.Answer.{IsAnswer, IsJobAnswer, IsMeanAnswer, IsRunAnswer, IsSourceAnswer, IsStray, files_of_job, named_files, usage_lines}
+use Rattle.job_endings.specs.declared.status.Status.TheVariants as status
+use Rattle.job_endings.specs.declared.refusal.Refusal.{Refusal}
+use Rattle.job_endings.specs.declared.refusal.Refusal.TheVariants.{Usage, Unread, TooLong, Source}
+use Rattle.job_endings.specs.declared.refusal.Stop.{Stop}
+use Rattle.job_endings.specs.declared.refusal.Stop.TheVariants.{Refused, NoMemory}
+use Rattle.job_endings.specs.Refusals.{refusal_status}
+use Rattle.job_endings.specs.Files.{Given, given_by}
+use Rattle.rnm_engine.specs.Jobs.{Answer, lines, refused, answer_lines, answer_status, is_own, Does}
+use Rattle.rnm_engine.specs.Answer.{EndsBy, IsAnswer, IsAnswered, IsComplete, IsFinished, IsJobAnswer, LeavesSink, files_of_words}
 
--- ---- by the job
--- the answer to words that ask for a job is the answer to the job
-pub answer_for : (held : ℕ → ShelfFiles) (words : List (List ℕ)) (job : Option Job) (pieces : List (List ℕ)) (status : Status) → job ≡ job_of_words words → MatchOption job ((pieces ≡ usage_lines) × (status ≡ Usage)) (λ j. IsJobAnswer held words j pieces status) → IsAnswer held words pieces status
-answer_for held words job pieces status is h =
-    let P : Option Job → Type 0 = λ o. MatchOption o ((pieces ≡ usage_lines) × (status ≡ Usage)) (λ j. IsJobAnswer held words j pieces status) in
-    subst P is h
+-- ---- statuses
+-- a status with which an answer ends
+abbrev pub is_final : Status → Bool
+is_final status.NoMemory = false
+is_final status.Unwritten = false
+is_final status = true
 
--- the same for a stray refusal, and for a file that isn't there
-pub stray_for : (before now : ℕ) (words : List (List ℕ)) (job : Option Job) (pieces : List (List ℕ)) → job ≡ job_of_words words
-    → IsStrayAmong before now (option_map_or (files_of_job words) job []) pieces → IsStray before now words pieces
-stray_for before now words job pieces is h = subst (λ o. IsStrayAmong before now (option_map_or (files_of_job words) o []) pieces) is h
+own_is_final : (answer : Answer) → is_own answer ≡ true → is_final (answer_status answer) ≡ true
+own_is_final (lines puts status.Ok) h = refl
+own_is_final (lines puts status.NoMemory) h = absurd (cc)
+own_is_final (lines puts status.Usage) h = refl
+own_is_final (lines puts status.Unread) h = refl
+own_is_final (lines puts status.Unwritten) h = absurd (cc)
+own_is_final (lines puts status.SourceRefused) h = refl
+own_is_final (lines puts status.InputRefused) h = refl
+own_is_final (lines puts status.PlanRefused) h = refl
+own_is_final (lines puts status.Trap) h = refl
+own_is_final (lines puts status.Damage) h = refl
+own_is_final (lines puts status.Spent) h = refl
+own_is_final (lines puts status.ObjectRefused) h = refl
+own_is_final (lines puts status.ScriptRefused) h = refl
+own_is_final (lines puts status.TooLong) h = refl
+own_is_final (refused Usage) h = refl
+own_is_final (refused (Unread file)) h = refl
+own_is_final (refused (TooLong file)) h = refl
+own_is_final (refused (Source fault)) h = refl
 
-pub missing_for : (shelf : ShelfState) (words : List (List ℕ)) (job : Option Job) → job ≡ job_of_words words
-    → SomeName (TellsMissing shelf) (option_map_or (files_of_job words) job []) → SomeName (TellsMissing shelf) (named_files words)
-missing_for shelf words job is h = subst (λ o. SomeName (TellsMissing shelf) (option_map_or (files_of_job words) o [])) is h
+refusal_is_final : (refusal : Refusal) → is_final (refusal_status refusal) ≡ true
+refusal_is_final Usage = refl
+refusal_is_final (Unread file) = refl
+refusal_is_final (TooLong file) = refl
+refusal_is_final (Source fault) = refl
 
--- ---- by what the shelf holds
--- at the first fetch, and at each later one
-abbrev pub either_of : ShelfFiles → ShelfFiles → ℕ → ShelfFiles
-either_of first later zero = first
-either_of first later (suc n) = later
+job_answer_is_final : (job : Option Job) (given : Given) (answer : Answer) → IsJobAnswer job given answer → is_final (answer_status answer) ≡ true
+job_answer_is_final None given answer h = ap (λ a. is_final (answer_status a)) h
+job_answer_is_final (Some job) (Ok texts) answer h = own_is_final answer h.1
+job_answer_is_final (Some job) (Err (Refused refusal)) answer h = ap (λ a. is_final (answer_status a)) h ∙ refusal_is_final refusal
+job_answer_is_final (Some job) (Err NoMemory) answer h = absurd h
 
-pub agrees_either : (told : Option ShelfFiles) (first later : ShelfFiles) → Agrees told first → Agrees told later → (n : ℕ) → Agrees told (either_of first later n)
-agrees_either told first later h k zero = h
-agrees_either told first later h k (suc n) = k
+-- ---- a file that is unread
+own_is_read : (answer : Answer) → is_own answer ≡ true → answer_status answer ≡ status.Unread → ⊥
+own_is_read (lines puts status.Unread) h e = cc
+own_is_read (lines puts status) h e = cc
+own_is_read (refused Usage) h e = cc
+own_is_read (refused (Unread file)) h e = cc
+own_is_read (refused (TooLong file)) h e = cc
+own_is_read (refused (Source fault)) h e = cc
 
--- where the shelf tells what it holds, it holds the same at each fetch
-job_answer_told : (held : ℕ → ShelfFiles) (known : ShelfFiles) (words : List (List ℕ)) (job : Job) (pieces : List (List ℕ)) (status : Status) → ((n : ℕ) → known ≡ held n)
-    → IsJobAnswer held words job pieces status → IsJobAnswer (λ _. known) words job pieces status
-job_answer_told held known words (Run source) pieces status same h =
-    subst (λ first. IsRunAnswer first (file_name words source) pieces status) (sym (same 0)) h
-job_answer_told held known words (Decode set residues) pieces status same h = h
-job_answer_told held known words (Encode set x) pieces status same h = h
-job_answer_told held known words (Mean source input set steps) pieces status same h =
-    let name = file_name words source in
-    let other = option_map (file_name words) input in
-    subst (λ later. IsMeanAnswer known later name other pieces status) (sym (same 1)) (subst (λ first. IsMeanAnswer first (held 1) name other pieces status) (sym (same 0)) h)
-job_answer_told held known words (Set set) pieces status same h = h
+unread_names : (refusal : Refusal) → refusal_status refusal ≡ status.Unread → (file : FileWord) × (refusal ≡ Unread file)
+unread_names Usage e = absurd (cc)
+unread_names (Unread file) e = (file, refl)
+unread_names (TooLong file) e = absurd (cc)
+unread_names (Source fault) e = absurd (cc)
 
-answer_told_for : (held : ℕ → ShelfFiles) (known : ShelfFiles) (words : List (List ℕ)) (job : Option Job) (pieces : List (List ℕ)) (status : Status) → ((n : ℕ) → known ≡ held n)
-    → MatchOption job ((pieces ≡ usage_lines) × (status ≡ Usage)) (λ j. IsJobAnswer held words j pieces status) → MatchOption job ((pieces ≡ usage_lines) × (status ≡ Usage)) (λ j. IsJobAnswer (λ _. known) words j pieces status)
-answer_told_for held known words None pieces status same h = h
-answer_told_for held known words (Some job) pieces status same h = job_answer_told held known words job pieces status same h
+unread_given : (job : Option Job) (given : Given) (answer : Answer) → IsJobAnswer job given answer → answer_status answer ≡ status.Unread → (file : FileWord) × (given ≡ Err (Refused (Unread file)))
+unread_given None given answer h e = absurd (let usage : status.Usage ≡ status.Unread = sym (ap answer_status h) ∙ e in cc)
+unread_given (Some job) (Ok texts) answer h e = absurd (own_is_read answer h.1 e)
+unread_given (Some job) (Err (Refused refusal)) answer h e =
+    let named = unread_names refusal (sym (ap answer_status h) ∙ e) in
+    (named.0, ap (λ r. Err (Refused r)) named.1)
+unread_given (Some job) (Err NoMemory) answer h e = absurd h
 
-pub answer_told : (told : Option ShelfFiles) (held : ℕ → ShelfFiles) (known : ShelfFiles) (words pieces : List (List ℕ)) (status : Status) → told ≡ Some known → ((n : ℕ) → Agrees told (held n))
-    → IsAnswer held words pieces status → IsAnswer (λ _. known) words pieces status
-answer_told told held known words pieces status is agrees h =
-    answer_told_for held known words (job_of_words words) pieces status (λ n. subst (λ t. Agrees t (held n)) is (agrees n)) h
+-- ---- what an answer over no texts for want of memory is
+without_memory : (job : Option Job) (given other : Given) (answer : Answer) → given ≡ Err NoMemory → IsJobAnswer job given answer → IsJobAnswer job other answer
+without_memory None given other answer e h = h
+without_memory (Some job) given other answer e h =
+    let none : ⊥ = subst (λ g. IsJobAnswer (Some job) g answer) e h in absurd none
 
--- without faults of the shelf no refusal is stray
-pub none_stray : (before now : ℕ) (names pieces : List (List ℕ)) → (Rose before now → ⊥) → IsStrayAmong before now names pieces → ⊥
-none_stray before now [] pieces no_fault h = h
-none_stray before now (name ∷ names) pieces no_fault h = elim h [ inl stray ↦ no_fault stray.0 | inr more ↦ none_stray before now names pieces no_fault more ]
+module _ {K : Type 0} (puts : K → List ℕ → K → Type 0) (state : K → SinkState) (words : List (List ℕ)) (old : K) where
+  -- ---- commands
+  pub Does-as : (Is Other : Answer → Type 0) → ((answer : Answer) → Is answer → Other answer) → (result : Result Status Stop) (new : K) → Does puts state old Is result new → Does puts state old Other result new
+  Does-as Is Other f (Ok result) new (pieces, own, is, ends) = (pieces, own, f (lines pieces own) is, ends)
+  Does-as Is Other f (Err (Refused refusal)) new (is, same) = (f (refused refusal) is, same)
+  Does-as Is Other f (Err NoMemory) new h = h
 
--- ---- statuses with which a whole answer is written
-pub verdict_is_whole : (verdict : Verdict) → is_whole (verdict_status verdict) ≡ true
-verdict_is_whole (Clean x) = refl
-verdict_is_whole (Corrected x i) = refl
-verdict_is_whole Damaged = refl
+  -- a job that stops before anything is put
+  pub stop_does : (job : Job) (stop : Stop) → Does puts state old (IsJobAnswer (Some job) (Err stop)) (Err stop) old
+  stop_does job (Refused refusal) = (refl, refl)
+  stop_does job NoMemory = refl
 
-pub source_is_whole : (text : List ℕ) (pieces : List (List ℕ)) (status : Status) → IsSourceAnswer text pieces status → is_whole status ≡ true
-source_is_whole text pieces status h = elim h [ inl runs ↦ ap is_whole runs.3 | inr refused ↦ ap is_whole refused.2 ]
+  -- what a command leaves, and then its end
+  pub finished : (Is : Answer → Type 0) (done : Result Status Stop) (mid : K) (result : Status) (new : K) → Does puts state old Is done mid → IsFinished puts state words done mid result new → EndsBy puts state words old Is result new
+  finished Is (Ok own) mid result new (pieces, status, is, ends) (same, stays) = inl (lines pieces status, is, rw (same, stays) ends)
+  finished Is (Err (Refused refusal)) mid result new (is, same) h =
+      elim (rw same at h) [ inl ends ↦ inl (refused refusal, is, ends) | inr memory ↦ inr memory ]
+  finished Is (Err NoMemory) mid result new same (memory, stays) =
+      inr (memory, subst (λ (k : K). WroteAll puts state old [] k) (sym (stays ∙ same)) (WroteAll-none old))
 
-pub refused_is_whole : (text : List ℕ) (pieces : List (List ℕ)) (status : Status) → IsRefused text pieces status → is_whole status ≡ true
-refused_is_whole text pieces status h = ap is_whole h.1
+  -- ---- the sink
+  -- nothing is put, or an answer whole, or a put failed
+  abbrev Way : Status → K → Type 0
+  Way result new =
+      ((result ≡ status.NoMemory) × WroteAll puts state old [] new)
+      ⊎ (((is_final result ≡ true) × (pieces : List (List ℕ)) × WroteAll puts state old pieces new)
+      ⊎ ((result ≡ status.Unwritten) × (pieces : List (List ℕ)) × BrokeOff puts state old pieces new))
+
+  way_of : (given : Given) (result : Status) (new : K) → EndsBy puts state words old (IsAnswer words given) result new → Way result new
+  way_of given result new ends =
+      elim ends [
+        | inl (answer, is, put) ↦ elim put [
+          | inl (same, wrote) ↦ inr (inl (ap is_final same ∙ job_answer_is_final (job_of_words words) given answer is, answer_lines words answer, wrote))
+          | inr (broke_is, (n, broke)) ↦ inr (inr (broke_is, take n (answer_lines words answer), broke))
+        ]
+        | inr without ↦ inl without
+      ]
+
+  pub leaves_sink : (given : Given) (result : Status) (new : K) → EndsBy puts state words old (IsAnswer words given) result new → LeavesSink puts state old result new
+  leaves_sink given result new ends =
+      let way = way_of given result new ends in
+      record {
+        nothing = λ memory. elim way [
+          | inl without ↦ without.1
+          | inr more ↦ elim more [
+            | inl whole ↦ absurd (let e : is_final status.NoMemory ≡ true = sym (ap is_final memory) ∙ whole.0 in cc)
+            | inr broke ↦ absurd (let e : status.Unwritten ≡ status.NoMemory = sym broke.0 ∙ memory in cc)
+          ]
+        ];
+        unwritten = λ unwritten. elim way [
+          | inl without ↦ absurd (let e : status.NoMemory ≡ status.Unwritten = sym without.0 ∙ unwritten in cc)
+          | inr more ↦ elim more [
+            | inl whole ↦ absurd (let e : is_final status.Unwritten ≡ true = sym (ap is_final unwritten) ∙ whole.0 in cc)
+            | inr broke ↦ broke.2.rose
+          ]
+        ];
+        written = λ other. elim way [
+          | inl without ↦ without.1.count
+          | inr more ↦ elim more [ inl whole ↦ whole.2.count | inr broke ↦ absurd (other broke.0) ]
+        ];
+        timely = elim way [
+          | inl without ↦ without.1.timely
+          | inr more ↦ elim more [ inl whole ↦ whole.2.timely | inr broke ↦ broke.2.timely ]
+        ];
+      }
+
+  pub usage_ends : (given : Given) (result : Status) (new : K) → job_of_words words ≡ None → (result ≡ status.NoMemory → ⊥) → EndsBy puts state words old (IsAnswer words given) result new
+      → (result ≡ status.Usage) ⊎ (result ≡ status.Unwritten)
+  usage_ends given result new none memory ends =
+      elim ends [
+        | inl (answer, is, put) ↦
+            let usage : answer ≡ refused Usage = subst (λ j. IsJobAnswer j given answer) none is in
+            elim put [ inl whole ↦ inl (whole.0 ∙ ap answer_status usage) | inr broke ↦ inr broke.0 ]
+        | inr without ↦ absurd (memory without.0)
+      ]
+
+  pub unread_ends : (given : Given) (result : Status) (new : K) → result ≡ status.Unread → EndsBy puts state words old (IsAnswer words given) result new → (file : FileWord) × (given ≡ Err (Refused (Unread file)))
+  unread_ends given result new unread ends =
+      elim ends [
+        | inl (answer, is, put) ↦ elim put [
+          | inl whole ↦ unread_given (job_of_words words) given answer is (sym whole.0 ∙ unread)
+          | inr broke ↦ absurd (let e : status.Unwritten ≡ status.Unread = sym broke.0 ∙ unread in cc)
+        ]
+        | inr without ↦ absurd (let e : status.NoMemory ≡ status.Unread = sym without.0 ∙ unread in cc)
+      ]
+
+-- ---- where the shelf tells what it holds and nothing fails
+module _ {S K : Type 0} (fetches : S → List ℕ → ℕ → Fetch → List ℕ → S → Type 0) (shelf_state : S → ShelfState) (puts : K → List ℕ → K → Type 0) (sink_state : K → SinkState)
+    (words : List (List ℕ)) (shelf : S) (sink : K) (result : Status) (shelf_after : S) (sink_after : K) where
+  pub completes : IsAnswered fetches shelf_state puts sink_state words shelf sink result shelf_after sink_after → IsComplete shelf_state puts sink_state words shelf sink result shelf_after sink_after
+  completes h held told no_fetch_fault no_put_fault =
+      let everywhere = given_by words held (files_of_words words) in
+      let answers : Type 0 = (answer : Answer) × IsAnswer words everywhere answer × (result ≡ answer_status answer) × WroteAll puts sink_state sink (answer_lines words answer) sink_after in
+      let over : (answer : Answer) → IsAnswer words h.given answer → IsAnswer words everywhere answer = λ answer is.
+      elim (h.explained held told) [
+        | inl whole ↦ subst (λ g. IsAnswer words g answer) whole is
+        | inr others ↦ elim others [
+          | inl memory ↦ without_memory (job_of_words words) h.given everywhere answer memory is
+          | inr fault ↦ absurd (no_fetch_fault fault.0)
+        ]
+      ] in
+      elim h.ends [
+        | inl (answer, is, put) ↦ elim put [
+          | inl (same, wrote) ↦ inr (answer, over answer is, same, wrote)
+          | inr (broke_is, (n, broke)) ↦ absurd (no_put_fault broke.rose)
+        ]
+        | inr without ↦ inl without
+      ]

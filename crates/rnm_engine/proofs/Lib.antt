@@ -1,1 +1,1 @@
-pub mod AnswerLemmas
+mod AnswerLemmas

@@ -1,83 +1,81 @@
--- The answer to a job: what is written, in pieces of which each is one put, and the status.
-use Rattle.std.specs.Prelude.{◌≡◌, ℕ, ℤ, ◌⊎◌, List, [], ◌∷◌, ◌++◌, Option, MatchOption, codes}
-use Rattle.std.specs.Option.{option_map, option_map_or}
-use Rattle.number_text.specs.Lines.{line, print_lines}
-use Rattle.outside.specs.Shelf.{ShelfFiles, file_of}
-use Rattle.thin_source.specs.ThinTree.{Program}
-use Rattle.thin_source.specs.ThinMeaning.{IsThin, prints_of}
+-- The answer to words: what the top call leaves.
+use Rattle.std.specs.Prelude.{◌≡◌, ◌≢◌, ℕ, ◌⊎◌, true, List, [], ◌∷◌, map, String, string_bytes, Option, Some, None, Result, Ok, Err}
+use Rattle.std.specs.Option.{option_map_or}
+use Rattle.outside.specs.Faults.{Rose}
+use Rattle.outside.specs.Shelf.{ShelfFiles, ShelfState}
+use Rattle.outside.specs.Sink.{NoPutAfterFault, SinkState, WroteAll}
+use Rattle.outside.specs.declared.shelf.Fetch.{Fetch}
+use Rattle.word_readers.specs.declared.operands.FileWord.{FileWord}
 use Rattle.command_words.specs.declared.job.Job.{Job}
-use Rattle.command_words.specs.declared.job.Job.TheVariants.{Run, Decode, Encode, Mean, Set}
 use Rattle.command_words.specs.Words.{job_of_words}
-use Rattle.word_options.specs.Operands.{file_name}
-use Rattle.moduli_sets.specs.Name.{set_of_name}
-use Rattle.redundant_decoder.specs.declared.decoder.Verdict.{Verdict}
-use Rattle.redundant_decoder.specs.Verdict.{IsVerdict}
 use Rattle.job_endings.specs.declared.status.Status.{Status}
-use Rattle.job_endings.specs.declared.status.Status.TheVariants.{Ok, Usage, SourceRefused}
-use Rattle.job_endings.specs.Files.{WithFile, IsStrayAmong, names_of}
-use Rattle.set_commands.specs.Decode.{verdict_lines, verdict_status}
-use Rattle.set_commands.specs.Sets.{encode_lines, set_lines}
-use Rattle.source_refusals.specs.Refusal.{unbuilt_lines, IsRefused}
+use Rattle.job_endings.specs.declared.status.Status.TheVariants.{NoMemory, Unwritten}
+use Rattle.job_endings.specs.declared.refusal.Refusal.TheVariants.{Usage}
+use Rattle.job_endings.specs.declared.refusal.Stop.{Stop}
+use Rattle.job_endings.specs.declared.refusal.Stop.TheVariants as stop
+use Rattle.job_endings.specs.Refusals.{refusal_line, refusal_status}
+use Rattle.job_endings.specs.Endings.{EndsPut, EndsWith}
+use Rattle.job_endings.specs.Files.{FetchesFiles, Given, IsExplained, given_by}
+use Rattle.rnm_engine.specs.Jobs.{Answer, refused, answer_lines, answer_status, is_own, IsDone, files_of_job}
 
--- the ending, and the corrections of each channel
-abbrev pub last_lines : List (List ℕ)
-last_lines = line (codes "end") ∷ (line (codes "corrected 0 0 0 0 0") ∷ [])
-
--- what a run of a thin source writes
-abbrev pub run_lines : List ℤ → List (List ℕ)
-run_lines prints = print_lines prints ++ last_lines
-
-abbrev pub usage_lines : List (List ℕ)
-usage_lines = line (codes "usage") ∷ []
-
--- a thin source runs; any other is refused
-abbrev pub IsSourceAnswer : List ℕ → List (List ℕ) → Status → Type 0
-IsSourceAnswer text pieces status =
-    ((program : Program) × IsThin text program × (pieces ≡ run_lines (prints_of program)) × (status ≡ Ok))
-    ⊎ (((program : Program) → IsThin text program → ⊥) × (pieces ≡ unbuilt_lines) × (status ≡ SourceRefused))
-
--- the answer to running the source of a name
-abbrev pub IsRunAnswer : ShelfFiles → List ℕ → List (List ℕ) → Status → Type 0
-IsRunAnswer held name = WithFile (file_of held name) name IsSourceAnswer
-
--- the answer to a source text whose meaning on an input is asked for, where the input is a file
-abbrev pub IsInputAnswer : ShelfFiles → List ℕ → Option (List ℕ) → List (List ℕ) → Status → Type 0
-IsInputAnswer held text input pieces status =
-    MatchOption input (IsRefused text pieces status) (λ name. WithFile (file_of held name) name (λ other. IsRefused text) pieces status)
-
--- the answer to a source by name: what the shelf holds at the first fetch, and at the second
-abbrev pub IsMeanAnswer : ShelfFiles → ShelfFiles → List ℕ → Option (List ℕ) → List (List ℕ) → Status → Type 0
-IsMeanAnswer held later source input =
-    WithFile (file_of held source) source (λ text. IsInputAnswer later text input)
-
--- The answer to a job that the words ask for, over what the shelf holds at each fetch of the job.
-abbrev pub IsJobAnswer : (ℕ → ShelfFiles) → List (List ℕ) → Job → List (List ℕ) → Status → Type 0
-IsJobAnswer held words (Run source) pieces status = IsRunAnswer (held 0) (file_name words source) pieces status
-IsJobAnswer held words (Decode set residues) pieces status =
-    (verdict : Verdict) × IsVerdict (set_of_name set) residues verdict × (pieces ≡ verdict_lines verdict) × (status ≡ verdict_status verdict)
-IsJobAnswer held words (Encode set x) pieces status = (pieces ≡ encode_lines (set_of_name set) x) × (status ≡ Ok)
-IsJobAnswer held words (Mean source input set steps) pieces status =
-    IsMeanAnswer (held 0) (held 1) (file_name words source) (option_map (file_name words) input) pieces status
-IsJobAnswer held words (Set set) pieces status = (pieces ≡ set_lines (set_of_name set)) × (status ≡ Ok)
-
--- the answer to words
-abbrev pub IsAnswer : (ℕ → ShelfFiles) → List (List ℕ) → List (List ℕ) → Status → Type 0
-IsAnswer held words pieces status =
-    MatchOption (job_of_words words) ((pieces ≡ usage_lines) × (status ≡ Usage)) (λ job. IsJobAnswer held words job pieces status)
-
--- ---- files
--- the files that a job reads, in the order in which they are fetched
-abbrev pub files_of_job : List (List ℕ) → Job → List (List ℕ)
-files_of_job words (Run source) = file_name words source ∷ []
-files_of_job words (Decode set residues) = []
-files_of_job words (Encode set x) = []
-files_of_job words (Mean source input set steps) = file_name words source ∷ names_of (option_map (file_name words) input)
-files_of_job words (Set set) = []
+-- words, each as its bytes
+abbrev pub words_of : {Z : Type 0} → List (String Z) → List (List ℕ)
+words_of words = map string_bytes words
 
 -- the files that the words name
-abbrev pub named_files : List (List ℕ) → List (List ℕ)
-named_files words = option_map_or (files_of_job words) (job_of_words words) []
+abbrev pub files_of_words : List (List ℕ) → List (Option FileWord)
+files_of_words words = option_map_or files_of_job (job_of_words words) []
 
--- a stray refusal for one of the files that the words name
-abbrev pub IsStray : ℕ → ℕ → List (List ℕ) → List (List ℕ) → Type 0
-IsStray before now words pieces = IsStrayAmong before now (named_files words) pieces
+-- ---- the answer over what fetching the files gave
+abbrev pub IsJobAnswer : Option Job → Given → Answer → Type 0
+IsJobAnswer None given answer = answer ≡ refused Usage
+IsJobAnswer (Some job) (Ok texts) answer = IsDone job texts answer × (is_own answer ≡ true)
+IsJobAnswer (Some job) (Err (stop.Refused refusal)) answer = answer ≡ refused refusal
+IsJobAnswer (Some job) (Err stop.NoMemory) answer = ⊥
+
+abbrev pub IsAnswer : List (List ℕ) → Given → Answer → Type 0
+IsAnswer words given answer = IsJobAnswer (job_of_words words) given answer
+
+-- ---- what is left in the sink
+module _ {K : Type 0} (puts : K → List ℕ → K → Type 0) (state : K → SinkState) where
+  -- a job ends with an answer put, up to a put that failed; or without memory and with nothing put
+  abbrev pub EndsBy : List (List ℕ) → K → (Answer → Type 0) → Status → K → Type 0
+  EndsBy words old Is result new =
+      ((answer : Answer) × Is answer × EndsPut puts state old (answer_lines words answer) (answer_status answer) result new)
+      ⊎ ((result ≡ NoMemory) × WroteAll puts state old [] new)
+
+  -- how a job ends by what its command leaves: what it was refused for is put
+  abbrev pub IsFinished : List (List ℕ) → Result Status Stop → K → Status → K → Type 0
+  IsFinished words (Ok status) old result new = (result ≡ status) × (new ≡ old)
+  IsFinished words (Err (stop.Refused refusal)) old result new = EndsWith puts state old (refusal_line words refusal ∷ []) (refusal_status refusal) result new
+  IsFinished words (Err stop.NoMemory) old result new = (result ≡ NoMemory) × (new ≡ old)
+
+  -- what the status says of the sink
+  pub record LeavesSink (old : K) (result : Status) (new : K) : Type 0 where
+    pub nothing : result ≡ NoMemory → WroteAll puts state old [] new
+    pub unwritten : result ≡ Unwritten → Rose (state old).faults (state new).faults
+    pub written : result ≢ Unwritten → (state new).faults ≡ (state old).faults
+    pub timely : NoPutAfterFault (state old) (state new)
+
+-- ---- what the top call leaves
+-- The files are fetched in order, each once, up to the first that isn't whole. What that gives is what the shelf holds,
+-- where it tells that and nothing fails; and the job ends with the answer over what it gives.
+pub record IsAnswered {S K : Type 0} (fetches : S → List ℕ → ℕ → Fetch → List ℕ → S → Type 0) (shelf_state : S → ShelfState)
+    (puts : K → List ℕ → K → Type 0) (sink_state : K → SinkState) (words : List (List ℕ))
+    (shelf : S) (sink : K) (result : Status) (shelf_after : S) (sink_after : K) : Type 0 where
+  pub given : Given
+  pub fetched : FetchesFiles fetches shelf_state words shelf (files_of_words words) given shelf_after
+  pub explained : (held : ShelfFiles) → (shelf_state shelf).told ≡ Some held
+      → IsExplained words held (Rose (shelf_state shelf).faults (shelf_state shelf_after).faults) (files_of_words words) given
+  pub ends : EndsBy puts sink_state words sink (IsAnswer words given) result sink_after
+
+-- where the shelf tells what it holds, and neither it nor the sink has a fault, the answer over that is put, whole; or
+-- memory ran out, and nothing is
+abbrev pub IsComplete : {S K : Type 0} → (S → ShelfState) → (K → List ℕ → K → Type 0) → (K → SinkState) → List (List ℕ) → S → K → Status → S → K → Type 0
+IsComplete shelf_state puts sink_state words shelf sink result shelf_after sink_after =
+    (held : ShelfFiles) → (shelf_state shelf).told ≡ Some held
+    → ¬ (Rose (shelf_state shelf).faults (shelf_state shelf_after).faults)
+    → ¬ (Rose (sink_state sink).faults (sink_state sink_after).faults)
+    → ((result ≡ NoMemory) × WroteAll puts sink_state sink [] sink_after)
+    ⊎ ((answer : Answer) × IsAnswer words (given_by words held (files_of_words words)) answer
+    × (result ≡ answer_status answer) × WroteAll puts sink_state sink (answer_lines words answer) sink_after)

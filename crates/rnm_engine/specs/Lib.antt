@@ -8,13 +8,15 @@ pub use Rattle.number_text.specs.Lines
 pub use Rattle.redundant_decoder.specs.Nearest
 pub use Rattle.redundant_decoder.specs.Verdict
 pub use Rattle.command_words.specs.Words
-pub use Rattle.word_options.specs.Operands
+pub use Rattle.word_readers.specs.Operands
 pub use Rattle.thin_source.specs.ThinTree
 pub use Rattle.thin_source.specs.ThinMeaning
+pub use Rattle.source_reader.specs.Reading
 pub use Rattle.job_endings.specs.StatusNumber
 pub use Rattle.job_endings.specs.Endings
 pub use Rattle.job_endings.specs.Files
+pub use Rattle.job_endings.specs.Refusals
 pub use Rattle.set_commands.specs.Sets
 pub use Rattle.set_commands.specs.Decode
-pub use Rattle.source_refusals.specs.Refusal
+pub mod Jobs
 pub mod Answer

@@ -7,7 +7,7 @@ ghost use Rattle.moduli_sets.specs.Vector.{vector_of};
 ghost use Rattle.thin_source.specs.ThinVectors.{pocket_vector};
 ghost use Rattle.thin_source.specs.ThinStates.{operated};
 
-use channel_alu::{Channel, Plain};
+use channel_alu::{Channel, FixedChannel, Plain};
 use moduli_sets::{Moduli, Vector};
 
 /// An operation on residues.
@@ -73,7 +73,7 @@ fn on_each_channel(operation: Operation, a: &Vector, b: &Vector) -> Vector
 }
 
 /// The operation on the residues of one channel.
-fn in_channel<C: Channel>(operation: Operation, a: u32, b: u32) -> u32
+fn in_channel<C: FixedChannel>(operation: Operation, a: u32, b: u32) -> u32
     requires left { a < C.MODULUS }
     requires right { b < C.MODULUS }
     ensures { (x y : ℤ)
@@ -81,10 +81,11 @@ fn in_channel<C: Channel>(operation: Operation, a: u32, b: u32) -> u32
         → b ≡ residue y C.MODULUS
         → result ≡ residue (operated operation x y) C.MODULUS }
 {
+    let channel = C::new();
     match operation {
-        Operation::Add => C::add(a, b),
-        Operation::Sub => C::sub(a, b),
-        Operation::Mul => C::mul(a, b),
+        Operation::Add => channel.add(a, b),
+        Operation::Sub => channel.sub(a, b),
+        Operation::Mul => channel.mul(a, b),
     }
 }
 

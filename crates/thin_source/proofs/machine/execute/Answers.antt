@@ -66,7 +66,7 @@ returns-in-Print-clause-put g c = λ state held.
     let vector = subst (λ (set : ModuliSet). c.sum_of-value.result ≡ vector_of set.moduli value) (sym c.requires.pocket) (c.sum_of-value.ensures state held) in
     let fits : FitsSigned w128 c.integer_of.result = search rules in
     let same = to_z-of_z w128 c.integer_of.result fits ∙ c.integer_of.ensures value in_range vector in
-    let piece = c.as_slice.ensures.value ∙ c.line_of.ensures ∙ ap (λ z. line (signed_decimal z)) same in
+    let piece = c.as_slice.ensures ∙ c.line_of.ensures ∙ ap (λ z. line (signed_decimal z)) same in
     let one = PutsPieces-one puts told old c.as_slice.result.now c.put.result new c.put.ensures.leaves c.put.ensures.late c.put.ensures.puts in
     subst (λ s. PutsPieces puts told old (print_lines (prints_from state (s ∷ []))) c.put.result new) (sym (ap statement_view c.in-Print.is))
     (subst (λ bytes. PutsPieces puts told old (bytes ∷ []) c.put.result new) piece one)

@@ -1,0 +1,133 @@
+-- What a job does once its files are there: a row a command in each table.
+use Rattle.std.specs.Prelude.{◌≡◌, ◌≢◌, ℕ, ℤ, ◌⊎◌, Bool, true, false, List, [], ◌∷◌, ◌++◌, Option, Some, None, Result, Ok, Err, slice_index_or, codes}
+use Rattle.number_text.specs.Lines.{line, print_lines}
+use Rattle.outside.specs.Sink.{SinkState}
+use Rattle.thin_source.specs.ThinTree.{Program}
+use Rattle.thin_source.specs.ThinMeaning.{IsThin, prints_of}
+use Rattle.source_tree.specs.declared.declaration.Program.{Program as SourceProgram}
+use Rattle.source_reader.specs.declared.fault.SourceFault.{SourceFault}
+use Rattle.source_reader.specs.declared.fault.SourceKind.TheVariants.{Unbuilt}
+use Rattle.source_parser.specs.Parsed.{SpellsProgram}
+use Rattle.source_reader.specs.Reading.{IsFirstFault}
+use Rattle.command_words.specs.declared.job.Job.{Job}
+use Rattle.command_words.specs.declared.job.Job.TheVariants.{Run, Decode, Encode, Mean, Set}
+use Rattle.word_readers.specs.declared.operands.FileWord.{FileWord}
+use Rattle.moduli_sets.specs.Name.{set_of_name}
+use Rattle.moduli_sets.specs.Set.{radius}
+use Rattle.redundant_decoder.specs.declared.decoder.Verdict.{Verdict}
+use Rattle.redundant_decoder.specs.Verdict.{IsVerdict}
+use Rattle.job_endings.specs.declared.status.Status.{Status}
+use Rattle.job_endings.specs.declared.status.Status.TheVariants as status
+use Rattle.job_endings.specs.declared.refusal.Refusal.{Refusal}
+use Rattle.job_endings.specs.declared.refusal.Refusal.TheVariants.{Source}
+use Rattle.job_endings.specs.declared.refusal.Stop.{Stop}
+use Rattle.job_endings.specs.declared.refusal.Stop.TheVariants.{Refused, NoMemory}
+use Rattle.job_endings.specs.Endings.{EndsPut}
+use Rattle.job_endings.specs.Refusals.{names_file, refusal_line, refusal_status}
+use Rattle.set_commands.specs.Decode.{verdict_lines, verdict_status}
+use Rattle.set_commands.specs.Sets.{encode_lines, set_lines}
+
+-- ---- answers
+-- lines and a status, or a refusal
+pub data Answer : Type 0 where
+  lines : List (List ℕ) → Status → Answer
+  refused : Refusal → Answer
+
+-- what is put, each line in one put
+abbrev pub answer_lines : List (List ℕ) → Answer → List (List ℕ)
+answer_lines words (lines puts status) = puts
+answer_lines words (refused refusal) = refusal_line words refusal ∷ []
+
+abbrev pub answer_status : Answer → Status
+answer_status (lines puts status) = status
+answer_status (refused refusal) = refusal_status refusal
+
+-- The answers that a job itself gives: with a status of one that was done, or a refusal of what a text says.
+abbrev pub is_own : Answer → Bool
+is_own (lines puts status.Ok) = true
+is_own (lines puts status.Trap) = true
+is_own (lines puts status.Damage) = true
+is_own (lines puts status.Spent) = true
+is_own (lines puts status) = false
+is_own (refused (Source fault)) = true
+is_own (refused refusal) = false
+
+abbrev pub IsOwn : (Answer → Type 0) → Answer → Type 0
+IsOwn Is answer = Is answer × (is_own answer ≡ true)
+
+-- ---- the table of files
+-- the files of a job, in the order in which they are fetched; none where the words name none
+abbrev pub files_of_job : Job → List (Option FileWord)
+files_of_job (Run source) = Some source ∷ []
+files_of_job (Decode set residues) = []
+files_of_job (Encode set x) = []
+files_of_job (Mean source input set steps) = Some source ∷ (input ∷ [])
+files_of_job (Set set) = []
+
+-- ---- the table of memory
+-- the jobs that take no memory; words that are no job take none
+abbrev pub takes_no_memory : Option Job → Bool
+takes_no_memory None = true
+takes_no_memory (Some (Run source)) = false
+takes_no_memory (Some (Decode set residues)) = true
+takes_no_memory (Some (Encode set x)) = true
+takes_no_memory (Some (Mean source input set steps)) = false
+takes_no_memory (Some (Set set)) = true
+
+-- ---- the table of what is done
+-- text number n, and the empty text where there is none
+abbrev pub text_at : List (List ℕ) → ℕ → List ℕ
+text_at texts n = slice_index_or texts n []
+
+-- the fault of a source whose meaning is not computed yet
+abbrev pub unbuilt : SourceFault
+unbuilt = record { kind = Unbuilt; line = 0 }
+
+-- the ending, and the corrections of each channel
+abbrev pub last_lines : List (List ℕ)
+last_lines = line (codes "end") ∷ (line (codes "corrected 0 0 0 0 0") ∷ [])
+
+-- what a run of a thin source puts
+abbrev pub run_lines : List ℤ → List (List ℕ)
+run_lines prints = print_lines prints ++ last_lines
+
+-- a thin source runs; any other is refused
+abbrev pub IsRunAnswer : List ℕ → Answer → Type 0
+IsRunAnswer source answer =
+    ((program : Program) × IsThin source program × (answer ≡ lines (run_lines (prints_of program)) status.Ok))
+    ⊎ (((program : Program) → IsThin source program → ⊥) × (answer ≡ refused (Source unbuilt)))
+
+-- a source is refused by its first fault, and one that spells a program since its meaning is not computed yet
+abbrev pub IsMeanAnswer : List ℕ → Answer → Type 0
+IsMeanAnswer source answer =
+    ((fault : SourceFault) × IsFirstFault source fault × (answer ≡ refused (Source fault)))
+    ⊎ ((program : SourceProgram) × SpellsProgram source program × (answer ≡ refused (Source unbuilt)))
+
+-- the answer of a job to its texts, in the order of its files
+abbrev pub IsDone : Job → List (List ℕ) → Answer → Type 0
+IsDone (Run source) texts answer = IsRunAnswer (text_at texts 0) answer
+IsDone (Decode set residues) texts answer =
+    (verdict : Verdict) × IsVerdict (radius (set_of_name set)) None (set_of_name set) residues verdict
+    × (answer ≡ lines (verdict_lines verdict) (verdict_status verdict))
+IsDone (Encode set x) texts answer = answer ≡ lines (encode_lines (set_of_name set) x) status.Ok
+IsDone (Mean source input set steps) texts answer = IsMeanAnswer (text_at texts 0) answer
+IsDone (Set set) texts answer = answer ≡ lines (set_lines (set_of_name set)) status.Ok
+
+-- ---- what a command leaves
+-- It put the lines of an answer, up to a put that failed, and gives the status; or it stops and has put nothing.
+abbrev pub Does : {K : Type 0} → (K → List ℕ → K → Type 0) → (K → SinkState) → K → (Answer → Type 0) → Result Status Stop → K → Type 0
+Does puts state old Is (Ok result) new =
+    (pieces : List (List ℕ)) × (own : Status) × Is (lines pieces own) × EndsPut puts state old pieces own result new
+Does puts state old Is (Err (Refused refusal)) new = Is (refused refusal) × (new ≡ old)
+Does puts state old Is (Err NoMemory) new = new ≡ old
+
+-- it did not run out of memory, and putting what it was refused for takes none
+abbrev pub TakesNone : Result Status Stop → Type 0
+TakesNone (Ok result) = result ≢ status.NoMemory
+TakesNone (Err (Refused refusal)) = names_file refusal ≡ false
+TakesNone (Err NoMemory) = ⊥
+
+-- why `mean` stops
+abbrev pub IsMeanStop : List ℕ → Stop → Type 0
+IsMeanStop source (Refused refusal) = IsOwn (IsMeanAnswer source) (refused refusal)
+IsMeanStop source NoMemory = Unit {0}
