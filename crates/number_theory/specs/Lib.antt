@@ -1,3 +1,4 @@
 pub mod Coprime
+pub mod Division
 pub mod Interval
 pub mod Residue

@@ -5,6 +5,7 @@
 #![tactic(auto)]
 
 mod coprime;
+mod division;
 mod intervals;
 mod residues;
 
@@ -12,6 +13,7 @@ pub use coprime::{
     coprime_factor_divides_other, equal_residues_make_equal, inverse_is_the_only_one,
     one_number_has_the_residues, pairwise_coprime_product_divides,
 };
+pub use division::floor_quotient_and_rest;
 pub use intervals::product_between;
 pub use residues::{
     quotient_and_residue, residue_of_difference, residue_of_negation, residue_of_product,

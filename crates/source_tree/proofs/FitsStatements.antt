@@ -5,7 +5,7 @@ use Rattle.std.specs.Ordering.{int_eq}
 use Rattle.plain_text.specs.Lookup.{lookup}
 use Rattle.moduli_sets.specs.declared.kind.Kind.{Kind}
 use Rattle.moduli_sets.specs.declared.kind.Kind.TheVariants as kind
-use Rattle.source_tree.specs.Division.{floor_div, floor_mod}
+use Rattle.number_theory.specs.Division.{floor_div, floor_mod}
 use Rattle.source_tree.specs.State.{State}
 use Rattle.source_tree.specs.Run.{returns, traps, Leads}
 use Rattle.source_tree.specs.Scope.{Declared, variable, array, procedure, Scope, is_within, range_of, range_at, with_integer_at, has_element, element_of, with_element_of}

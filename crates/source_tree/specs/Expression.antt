@@ -3,7 +3,7 @@ use Rattle.std.specs.Prelude.{ℕ, ℤ, pos, neg_ℤ, ◌+ℤ◌, ◌-ℤ◌, �
 use Rattle.std.specs.Ordering.{int_eq}
 use Rattle.moduli_sets.specs.declared.kind.Kind.TheVariants.{Zero, Index}
 use Rattle.plain_text.specs.Lookup.{lookup}
-use Rattle.source_tree.specs.Division.{floor_div, floor_mod}
+use Rattle.number_theory.specs.Division.{floor_div, floor_mod}
 use Rattle.source_tree.specs.State.{State}
 use Rattle.source_tree.specs.Run.{Run, visit, returns, traps, happens, and_then}
 use Rattle.source_tree.specs.Scope.{Scope, Declared, integer_at, has_element, element_of}
