@@ -189,6 +189,49 @@ three_turns_take_thirty_visits = rw (
 )
 
 -- var x: 0..20;
+-- while x < 3 limit 20 do x := x + 1; end
+-- print x;
+abbrev turns_left : Program
+turns_left = record {
+  declarations = Var (named (codes "x") 1) (from_to (pos 0) (pos 20)) 1 ∷ [];
+  statements =
+      While
+      (record { left = Name (named (codes "x") 2); comparison = Less; right = Number (pos 3) 2; line = 2 })
+      (pos 20)
+      (Assign (AtName (named (codes "x") 2)) (Binary (Name (named (codes "x") 2)) Add (Number (pos 1) 2) 2)
+      2 ∷ []) 2 ∷
+      Print (Name (named (codes "x") 3)) 3 ∷ [];
+}
+
+-- its condition ends it, with seventeen turns left
+pub turns_left_means : outcome (meaning turns_left []) ≡ ((pos 3 ∷ []), None)
+turns_left_means = rw (
+  execution-While,
+  evaluation-Name,
+  evaluation-Number,
+  execution-Assign,
+  evaluation-Binary,
+  evaluation-Name,
+  evaluation-Number,
+  execution-Print,
+  evaluation-Name,
+)
+
+-- the statement, four conditions of three visits each, three turns of five, and the print of two
+pub turns_left_takes_thirty_visits : visits (meaning turns_left []) ≡ 30
+turns_left_takes_thirty_visits = rw (
+  execution-While,
+  evaluation-Name,
+  evaluation-Number,
+  execution-Assign,
+  evaluation-Binary,
+  evaluation-Name,
+  evaluation-Number,
+  execution-Print,
+  evaluation-Name,
+)
+
+-- var x: 0..20;
 -- while x < 10 limit 3 do x := x + 1; end
 abbrev too_many_turns : Program
 too_many_turns = record {
