@@ -6,7 +6,8 @@ use Rattle.std.proofs.lemmas.List.{length-map}
 use Rattle.std.proofs.lemmas.List.Sums.{sum_by-cons}
 use Rattle.source_lexer.specs.declared.token.Token.{Token}
 use Rattle.source_lexer.specs.Scan.{ScanEnd, ScansFrom, Scans}
-use Rattle.source_tree.specs.Numbers.{names_declared, program_names}
+use Rattle.source_tree.specs.Scope.{names_in}
+use Rattle.source_tree.specs.Numbers.{program_names}
 use Rattle.source_tree.specs.declared.name.Range.{Range}
 use Rattle.source_tree.specs.declared.expression.Expr.{Expr}
 use Rattle.source_tree.specs.declared.expression.Condition.{Condition}
@@ -97,16 +98,16 @@ locals_take grammar.none = omega arith
 locals_take (grammar.and_more r more) = omega (arith, local_shorter r, locals_take more)
 
 declaration_takes : {depth width : ℕ} {terminals rest : List Terminal} {found : Declaration} → ReadsDeclaration depth width terminals found rest
-    → names_declared found + length rest ≤ length terminals
+    → names_in found + length rest ≤ length terminals
 declaration_takes (grammar.var r) = omega (arith, param_shorter r)
 declaration_takes (grammar.array r) = omega (arith, range_shorter r)
 declaration_takes (grammar.proc params locals body) = omega (arith, listed_take params, locals_take locals, statements_shorter body)
 
 declarations_take : {depth width : ℕ} {terminals rest : List Terminal} {all : List Declaration} → ReadsAll (ReadsDeclaration depth width) terminals all rest
-    → sum_by names_declared all + length rest ≤ length terminals
+    → sum_by names_in all + length rest ≤ length terminals
 declarations_take grammar.none = omega arith
 declarations_take (grammar.and_more {first = first} {more = others} r more) =
-    omega (arith, sum_by-cons names_declared first others, declaration_takes r, declarations_take more)
+    omega (arith, sum_by-cons names_in first others, declaration_takes r, declarations_take more)
 
 -- ---- a token takes a byte at least
 tokens_take : (text : List ℕ) (from : ℕ) (tokens : List Token) (end : ScanEnd) → from ≤ length text → ScansFrom text from tokens end

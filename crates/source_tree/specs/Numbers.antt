@@ -1,6 +1,7 @@
 -- The numbers that stand in a tree, and how many names it declares.
-use Rattle.std.specs.Prelude.{ℕ, ℤ, ◌+◌, List, [], ◌∷◌, ◌++◌, length, sum_by}
+use Rattle.std.specs.Prelude.{ℕ, ℤ, List, [], ◌∷◌, ◌++◌, sum_by}
 use Rattle.std.specs.List.{flat_map}
+use Rattle.source_tree.specs.Scope.{names_in}
 use Rattle.source_tree.specs.declared.expression.Condition.{Condition}
 use Rattle.source_tree.specs.declared.expression.Expr.{Expr, fold-Expr}
 use Rattle.source_tree.specs.declared.expression.Expr.TheOpen as expr
@@ -54,11 +55,6 @@ declaration_numbers (declaration.Proc name params locals body line) = flat_map s
 abbrev pub program_numbers : Program → List ℤ
 program_numbers program = flat_map declaration_numbers program.declarations ++ flat_map statement_numbers program.statements
 
--- ---- a procedure declares its own name, its parameters and its locals
-abbrev pub names_declared : Declaration → ℕ
-names_declared (declaration.Var name range line) = 1
-names_declared (declaration.Array name len range line) = 1
-names_declared (declaration.Proc name params locals body line) = 1 + length params + length locals
-
+-- ---- the names that it declares
 abbrev pub program_names : Program → ℕ
-program_names program = sum_by names_declared program.declarations
+program_names program = sum_by names_in program.declarations

@@ -38,7 +38,7 @@ with_declared k (Array name len range line) scope = scope ++ (name.bytes, array 
 with_declared k (Proc name params locals body line) scope =
     scope ++ (name.bytes, procedure k (map (λ p. p.range) params)) ∷ []
 
--- how many names a declaration declares
+-- how many names a declaration declares: a procedure its own, its parameters' and its locals'
 abbrev pub names_in : Declaration → ℕ
 names_in (Var name range line) = 1
 names_in (Array name len range line) = 1
