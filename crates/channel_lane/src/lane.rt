@@ -175,8 +175,8 @@ impl<C: Channel> Lane<C> {
         }
     }
 
-    /// What an Unscale by channel s makes of a residue here: what is left after `take`, times the inverse of the
-    /// modulus of s; in s itself `give`.
+    /// What an Unscale by channel s makes of a residue x here: the difference of x and `take`, times the inverse of
+    /// the modulus of s; in s itself `give`.
     fn unscaled_residue(&self, x: u32, s: usize, take: u32, give: u32) -> u32
         requires residue { x < modulus_of self.now }
         requires channel { s < length self.now.set.moduli }
