@@ -62,21 +62,21 @@ abbrev pub sink_state : MemoryBytes → SinkState
 sink_state sink = record { faults = sink.faults; late = sink.late; told = Some sink.bytes }
 
 -- how many bytes the put of this number takes before it fails, where it stands in the list; the first entry counts
-abbrev pub listed : ℕ → List (ℕ × ℕ) → Option ℕ
-listed number [] = None
-listed number (entry ∷ entries) = if entry.0 == number then Some entry.1 else listed number entries
+abbrev pub listed_len : ℕ → List (ℕ × ℕ) → Option ℕ
+listed_len number [] = None
+listed_len number (entry ∷ entries) = if entry.0 == number then Some entry.1 else listed_len number entries
 
 -- how many bytes still fit
 abbrev pub room_left : MemoryBytes → ℕ
 room_left sink = sink.room - length sink.bytes
 
 -- how many of the bytes a put takes
-abbrev pub taken : MemoryBytes → List ℕ → ℕ
-taken sink bytes = min (unwrap_or (listed sink.put_count sink.failing) (length bytes)) (min (length bytes) (room_left sink))
+abbrev pub taken_len : MemoryBytes → List ℕ → ℕ
+taken_len sink bytes = min (unwrap_or (listed_len sink.put_count sink.failing) (length bytes)) (min (length bytes) (room_left sink))
 
 -- how a put answers: Done where it isn't listed and all fits
 abbrev pub put_answer : MemoryBytes → List ℕ → Put
-put_answer sink bytes = if is_none (listed sink.put_count sink.failing) && nat_le (length bytes) (room_left sink) then Done else PutFailed
+put_answer sink bytes = if is_none (listed_len sink.put_count sink.failing) && nat_le (length bytes) (room_left sink) then Done else PutFailed
 
 -- the count of faults after a put, by its answer
 abbrev pub faults_after_put : ℕ → Put → ℕ
@@ -85,4 +85,4 @@ faults_after_put faults PutFailed = next_count faults
 
 -- the sink after a put of the bytes
 abbrev pub after_put : MemoryBytes → List ℕ → MemoryBytes
-after_put sink bytes = record sink { bytes = sink.bytes ++ take (taken sink bytes) bytes; put_count = next_count sink.put_count; faults = faults_after_put sink.faults (put_answer sink bytes); late = sink.late || not (sink.faults == 0) }
+after_put sink bytes = record sink { bytes = sink.bytes ++ take (taken_len sink bytes) bytes; put_count = next_count sink.put_count; faults = faults_after_put sink.faults (put_answer sink bytes); late = sink.late || not (sink.faults == 0) }

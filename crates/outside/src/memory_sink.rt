@@ -1,6 +1,6 @@
 ghost use Rattle.std.specs.Prelude.{◌≡◌, ◌≤◌, ◌||◌, ◌==◌, [], length, false, not, IfOk, IsOk, vec_capacity};
 ghost use Rattle.outside.specs.Sink.{PutLeaves};
-ghost use Rattle.outside.specs.Memory.{MemoryBytes, after_put, listed, put_answer, sink_state};
+ghost use Rattle.outside.specs.Memory.{MemoryBytes, after_put, listed_len, put_answer, sink_state};
 
 use crate::sink::{Put, Sink};
 use std::alloc::{AllocError, Global};
@@ -98,7 +98,7 @@ impl Sink for MemorySink {
 
 // How many bytes the put of this number takes before it fails, where it stands in the list.
 fn find_listed(failing: &[(usize, usize)], number: usize) -> Option<usize>
-    ensures { result ≡ listed number failing.now }
+    ensures { result ≡ listed_len number failing.now }
 {
     for (place, taken) in failing {
         if *place == number {
