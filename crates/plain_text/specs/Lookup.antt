@@ -10,9 +10,3 @@ Named A = List (List ℕ × A)
 abbrev pub lookup : {A : Type 0} → List ℕ → Named A → Option A
 lookup name [] = None
 lookup name (entry ∷ entries) = if bytes_eq entry.0 name then Some entry.1 else lookup name entries
-
--- the same things, with another in the place of the one that the name means, where there is one
-abbrev pub with_entry : {A : Type 0} → List ℕ → A → Named A → Named A
-with_entry name thing [] = []
-with_entry name thing (entry ∷ entries) =
-    if bytes_eq entry.0 name then (entry.0, thing) ∷ entries else entry ∷ with_entry name thing entries
