@@ -3,15 +3,16 @@ use Rattle.std.specs.Prelude.{◌≡◌, ℕ, ◌≤◌, ◌⊎◌, nat_lt, List
 use Rattle.outside.specs.declared.shelf.Fetch.{Fetch}
 use Rattle.outside.specs.declared.shelf.Fetch.TheVariants as fetch
 use Rattle.outside.specs.Shelf.{IsFetch, ShelfFiles, ShelfState, file_of}
+use Rattle.source_reader.specs.Reading.{text_limit}
 use Rattle.word_readers.specs.declared.operands.FileWord.{FileWord}
 use Rattle.word_readers.specs.Operands.{file_name}
 use Rattle.job_endings.specs.declared.refusal.Refusal.TheVariants.{Unread, TooLong}
 use Rattle.job_endings.specs.declared.refusal.Stop.{Stop}
 use Rattle.job_endings.specs.declared.refusal.Stop.TheVariants.{Refused, NoMemory}
 
--- the most bytes that a file may have
+-- the most bytes that a file may have, as many as a source text
 abbrev pub file_limit : ℕ
-file_limit = 4194304
+file_limit = text_limit
 
 -- the most files that a job has
 abbrev pub most_files : ℕ
