@@ -3,7 +3,7 @@
 //! A job's files are fetched in order, and its texts come out, or why there are none. A refusal is a value until it is put:
 //! one line and a status, all of them in one table. What is printed at once goes into a sink line by line. The crate stands
 //! on `outside`, `number_text`, `source_reader` for what sources are refused for, and `word_readers` for the words that name
-//! files; it knows no command.
+//! files; it knows no command. Its tests stand in `command_tests`.
 #![tactic(auto)]
 
 mod files;

@@ -1,7 +1,8 @@
 //! Laws of residues, of coprime numbers and of products of integers.
 //!
 //! Nothing comes in and nothing goes out: each function's contract is one law over all numbers, and its
-//! body is empty. The crate stands on std alone; whoever computes with residues stands on it.
+//! body is empty. The crate stands on std alone; whoever computes with residues stands on it. There is no code to test:
+//! worked rows of its definitions are laws of `moduli_sets` and `source_tree`.
 #![tactic(auto)]
 
 mod coprime;

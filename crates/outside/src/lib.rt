@@ -2,7 +2,8 @@
 //!
 //! A shelf is asked for files and a sink takes pieces of bytes; each counts its faults, and where it keeps all
 //! in memory it tells its contents to contracts. The forms in memory serve tests and theorems, `FileShelf` and
-//! `OutSink` are the real ones. The crate stands on `plain_text` for look-up by name.
+//! `OutSink` are the real ones. The crate stands on `plain_text` for look-up by name. Its tests stand beside the code,
+//! in the same files.
 #![tactic(auto)]
 
 mod file_shelf;

@@ -3,7 +3,8 @@
 //! In comes a text as bytes, out goes its program, or None where it is no thin source. A program's variables
 //! start as vectors of residues; as it runs, each integer that it prints goes to a sink as one line. The crate
 //! calls `source_lexer` and `plain_text` to read, `moduli_sets` and `channel_alu` to compute, `number_text` and
-//! `outside` to print. It serves until the whole language is compiled, and then goes as a whole.
+//! `outside` to print. Its tests stand in `command_tests`. It serves until the whole language is compiled, and
+//! then goes as a whole.
 #![tactic(auto)]
 
 ghost use Rattle.std.specs.Prelude.{◌≡◌, ◌≤◌, length, IfOk, MatchOption};
