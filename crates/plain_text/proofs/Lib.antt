@@ -3,3 +3,4 @@ pub mod DigitPrefix
 pub mod LineCounts
 pub mod WholeNumbers
 pub mod WordLemmas
+mod Rows
