@@ -1,5 +1,5 @@
 -- Worked rows: what words of an input are held as, and where an input is refused.
-use Rattle.std.specs.Prelude.{◌≡◌, refl, ℕ, ℤ, pos, negsuc, ◌-◌, ◌^◌, List, [], ◌∷◌, codes}
+use Rattle.std.specs.Prelude.{◌≡◌, refl, ℕ, ℤ, pos, negsuc, ◌-◌, ◌^◌, List, codes}
 use Rattle.std.proofs.Common.{inl, inr, arith}
 use Rattle.number_text.specs.Input.{IsFirstOther, held_integer, input_words}
 

@@ -6,9 +6,11 @@
 #![tactic(auto)]
 
 mod input;
+mod laws;
 mod line;
 #[cfg(test)]
 mod tests;
 
 pub use input::{InputFault, read_numbers};
+pub use laws::one_reading;
 pub use line::{Line, line_of};

@@ -1,5 +1,5 @@
 -- Words from a place on: what parts them is passed over, and so is a word.
-use Rattle.std.proofs.Common.{◌≡◌, ℕ, zero, suc, ◌+◌, ◌-◌, ◌<◌, ◌≤◌, ◌&&◌, Bool, true, false, cond, if◌then◌else◌, not, List, [], ◌∷◌, length, drop, take, length-drop, refl, sym, ap, ◌∙◌, subst, arith}
+use Rattle.std.proofs.Common.{◌≡◌, ℕ, suc, ◌+◌, ◌-◌, ◌<◌, ◌≤◌, ◌&&◌, Bool, true, false, cond, if◌then◌else◌, not, List, [], ◌∷◌, length, drop, take, length-drop, refl, sym, ap, ◌∙◌, subst, arith}
 use Rattle.std.specs.List.{prefix_len, slice_range}
 use Rattle.std.proofs.lemmas.List.{drop-drop}
 use Rattle.std.proofs.Math.Seq.{take-length}
@@ -65,9 +65,9 @@ begins-here separators place b bytes h =
     record {
       some = omega (arith, one_more);
       words =
-        words_from-begins separators place b bytes h
-        ∙ ap (λ words. word_at separators place (b ∷ bytes) ∷ words) (sym (words_from-within separators place b bytes h) ∙ words_from-pass separators place (b ∷ bytes))
-        ∙ ap (λ n. word_at separators n (b ∷ bytes) ∷ words_from separators false (n + word_bytes separators (b ∷ bytes)) (drop (word_bytes separators (b ∷ bytes)) (b ∷ bytes))) same;
+          words_from-begins separators place b bytes h
+          ∙ ap (λ words. word_at separators place (b ∷ bytes) ∷ words) (sym (words_from-within separators place b bytes h) ∙ words_from-pass separators place (b ∷ bytes))
+          ∙ ap (λ n. word_at separators n (b ∷ bytes) ∷ words_from separators false (n + word_bytes separators (b ∷ bytes)) (drop (word_bytes separators (b ∷ bytes)) (b ∷ bytes))) same;
     }
 
 begins-later : (separators : List ℕ) (place b : ℕ) (bytes : List ℕ) (n : ℕ) → is_separator separators b ≡ true → BeginsAfter separators (place + 1) bytes n → BeginsAfter separators place (b ∷ bytes) (suc n)
@@ -76,9 +76,9 @@ begins-later separators place b bytes n h rest =
     record {
       some = rest.some;
       words =
-        words_from-separator separators false place b bytes h
-        ∙ rest.words
-        ∙ ap (λ k. word_at separators k (drop n bytes) ∷ words_from separators false (k + word_bytes separators (drop n bytes)) (drop (word_bytes separators (drop n bytes)) (drop n bytes))) further;
+          words_from-separator separators false place b bytes h
+          ∙ rest.words
+          ∙ ap (λ k. word_at separators k (drop n bytes) ∷ words_from separators false (k + word_bytes separators (drop n bytes)) (drop (word_bytes separators (drop n bytes)) (drop n bytes))) further;
     }
 
 begins_step : (separators : List ℕ) (place b : ℕ) (bytes : List ℕ) → (separators_before separators bytes < length bytes → BeginsAfter separators (place + 1) bytes (separators_before separators bytes))
@@ -127,9 +127,10 @@ words_at-first separators text place start end start_is some end_is =
     let len = word_bytes separators (drop start text) in
     let some_bytes : 0 < len = subst (λ bytes. 0 < word_bytes separators bytes) there first.some in
     let at_start = subst (λ k. words_from separators false place (drop place text) ≡ word_at separators k (drop start text) ∷ words_from separators false (k + len) (drop len (drop start text))) (sym start_is)
-        (subst (λ bytes. words_from separators false place (drop place text) ≡ word_at separators (place + n) bytes ∷ words_from separators false (place + n + word_bytes separators bytes) (drop (word_bytes separators bytes) bytes)) there first.words) in
-    (at_start
-    ∙ ap (λ k. record { place = start; bytes = take k (drop start text) } ∷ words_from separators false (start + len) (drop len (drop start text))) (omega (arith, end_is))
-    ∙ ap (λ bytes. record { place = start; bytes = slice_range text start end } ∷ words_from separators false (start + len) bytes) (drop-drop len start text)
-    ∙ ap (λ k. record { place = start; bytes = slice_range text start end } ∷ words_from separators false k (drop k text)) (sym end_is),
-    omega (arith, some_bytes, end_is))
+    (subst (λ bytes. words_from separators false place (drop place text) ≡ word_at separators (place + n) bytes ∷ words_from separators false (place + n + word_bytes separators bytes) (drop (word_bytes separators bytes) bytes)) there first.words) in (
+      at_start
+          ∙ ap (λ k. record { place = start; bytes = take k (drop start text) } ∷ words_from separators false (start + len) (drop len (drop start text))) (omega (arith, end_is))
+          ∙ ap (λ bytes. record { place = start; bytes = slice_range text start end } ∷ words_from separators false (start + len) bytes) (drop-drop len start text)
+          ∙ ap (λ k. record { place = start; bytes = slice_range text start end } ∷ words_from separators false k (drop k text)) (sym end_is),
+      omega (arith, some_bytes, end_is),
+    )

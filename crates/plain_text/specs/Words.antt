@@ -1,5 +1,5 @@
 -- Words of a text of bytes, parted by a set of bytes.
-use Rattle.std.specs.Prelude.{ℕ, ◌+◌, ◌==◌, Bool, true, false, not, ◌&&◌, List, [], ◌∷◌, take_while, if◌then◌else◌}
+use Rattle.std.specs.Prelude.{ℕ, ◌+◌, ◌==◌, Bool, false, not, ◌&&◌, List, [], ◌∷◌, take_while, if◌then◌else◌}
 use Rattle.std.specs.List.{list_any}
 
 -- a word, and the place of its first byte in the text

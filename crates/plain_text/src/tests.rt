@@ -58,8 +58,14 @@ fn integers_up_to_a_limit(rt: HostRuntime) {
 #[test]
 fn words_of_a_text(rt: HostRuntime) {
     let text = b" \r12\t-3\x0b4\n";
-    assert_eq!(rt; next_word(text, 0, &WHITE_SPACE), Some(Word { start: 2, end: 4 }));
-    assert_eq!(rt; next_word(text, 4, &WHITE_SPACE), Some(Word { start: 5, end: 9 }));
+    assert_eq!(rt;
+        next_word(text, 0, &WHITE_SPACE),
+        Some(Word { start: 2, end: 4 })
+    );
+    assert_eq!(rt;
+        next_word(text, 4, &WHITE_SPACE),
+        Some(Word { start: 5, end: 9 })
+    );
     assert_eq!(rt; next_word(text, 9, &WHITE_SPACE), None);
     assert_eq!(rt; next_word(text, 0, b" \t"), Some(Word { start: 1, end: 4 }));
 }

@@ -18,8 +18,8 @@ pub fn next_word(text: &[u8], place: usize, separators: &[u8]) -> Option<Word>
     requires { place ≤ length text.now }
     ensures { MatchOption result (words_from separators.now false place (drop place text.now) ≡ [])
         (λ word. (words_from separators.now false place (drop place text.now)
-            ≡ record { place = word.start; bytes = slice_range text.now word.start word.end }
-            ∷ words_from separators.now false word.end (drop word.end text.now))
+        ≡ record { place = word.start; bytes = slice_range text.now word.start word.end }
+        ∷ words_from separators.now false word.end (drop word.end text.now))
         × (place ≤ word.start)
         × (word.start < word.end)
         × (word.end ≤ length text.now)) }

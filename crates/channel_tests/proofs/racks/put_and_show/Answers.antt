@@ -1,8 +1,8 @@
-use Rattle.std.proofs.Common.{◌<◌, ◌^◌, All, [], ◌∷◌, sym, subst, arith}
+use Rattle.std.proofs.Common.{◌<◌, ◌^◌, [], ◌∷◌, sym, subst, arith}
 use Rattle.std.proofs.lemmas.List.Elements.{All-map, All-weaker}
 use Rattle.channel_alu.specs.declared.operation.Place.TheVariants.{Reg}
 use Rattle.channel_alu.specs.declared.operation.MicroOp.TheVariants.{Put}
-use Rattle.channel_lane.specs.Lane.{LaneState, lane_after}
+use Rattle.channel_lane.specs.Lane.{lane_after}
 use Rattle.channel_lane.proofs.LaneLemmas.{answers-after_all}
 use Rattle.channel_scheduler.specs.Rack.{HasRoom}
 use Rattle.channel_tests.proofs.racks.put_and_show.Goals as goal

@@ -1,7 +1,5 @@
-use Rattle.std.proofs.Common.{◌≡◌, ◌<◌, ◌^◌, All, [], sym, ap, ◌∙◌, subst, arith}
-use Rattle.std.proofs.lemmas.List.Elements.{All-weaker}
+use Rattle.std.proofs.Common.{◌≡◌, All, [], sym, ap, ◌∙◌, subst}
 use Rattle.moduli_sets.specs.Name.{set_of_name}
-use Rattle.channel_lane.specs.Lane.{LaneState}
 use Rattle.lane_bank.specs.Bank.{lanes_at_start}
 use Rattle.lane_bank.proofs.BankLemmas.{fresh-lanes_at_start}
 use Rattle.channel_tests.proofs.racks.shows.Goals as goal

@@ -1,4 +1,4 @@
-use Rattle.std.proofs.Common.{rules, ◌≡◌, false, List, ◌∷◌, ◌++◌, [], drop, refl, ap, ◌∙◌, subst}
+use Rattle.std.proofs.Common.{rules, false, ◌∷◌, ◌++◌, [], drop, refl, ap, ◌∙◌, subst}
 use Rattle.std.specs.List.{slice_range}
 use Rattle.std.proofs.lemmas.Bool.{false≢true}
 use Rattle.std.proofs.lemmas.Int.{to_z-of_z}
