@@ -1,15 +1,16 @@
 -- Lanes through operations.
-use Rattle.std.proofs.Common.{◌≡◌, ℕ, ◌+◌, ◌%◌, ◌<◌, List, [], ◌∷◌, ◌++◌, length, Option, None, Some, refl, sym, ap, ◌∙◌, subst, arith}
+use Rattle.std.proofs.Common.{◌≡◌, ℕ, ◌+◌, ◌%◌, ◌<◌, List, [], ◌∷◌, ◌++◌, length, Option, None, Some, refl, sym, ap, ◌∙◌, subst, arith, ℤ}
 use Rattle.std.specs.Option.{option_map_or}
-use Rattle.std.proofs.lemmas.List.{length-set}
+use Rattle.std.proofs.lemmas.List.{length-set, length-replicate}
 use Rattle.std.proofs.Math.Nat.{mod-lt}
 use Rattle.number_theory.proofs.ResidueLemmas.{residue-below}
+use Rattle.moduli_sets.specs.Set.{ModuliSet, IsModuliSet}
 use Rattle.channel_alu.specs.declared.operation.Place.{Place}
 use Rattle.channel_alu.specs.declared.operation.Place.TheVariants.{Reg, Scratch, Word}
 use Rattle.channel_alu.specs.declared.operation.MicroOp.{MicroOp}
 use Rattle.fault_book.specs.Book.{Book, fault_at}
 use Rattle.channel_lane.specs.Meaning.{CanPerform, destination}
-use Rattle.channel_lane.specs.Lane.{LaneState, modulus_of, with_held, plain_value, value_of, answer_of, lane_after, lane_after_all}
+use Rattle.channel_lane.specs.Lane.{LaneState, IsLane, lane_at_start, modulus_of, with_held, plain_value, value_of, answer_of, lane_after, lane_after_all}
 
 -- a lane with one answer more
 abbrev pub one_answer_more : LaneState → LaneState
@@ -98,6 +99,30 @@ answers-after_all book (op ∷ ops) lane =
 pub after_all-parts : (book : Book) (ops more : List MicroOp) (lane : LaneState) → lane_after_all book (ops ++ more) lane ≡ lane_after_all book more (lane_after_all book ops lane)
 after_all-parts book [] more lane = refl
 after_all-parts book (op ∷ ops) more lane = after_all-parts book ops more (lane_after book op lane)
+
+-- ---- a lane of its set stays one
+pub IsLane-at_start : (set : ModuliSet) (start : List ℤ) (channel : ℕ) → IsModuliSet set → channel < length set.moduli → IsLane (lane_at_start set start channel)
+IsLane-at_start set start channel rules within = record {
+  rules = rules;
+  channel_in = within;
+  sixteen = length-replicate {A = ℕ} 16 0;
+  eight = length-replicate {A = ℕ} 8 0;
+}
+
+IsLane-written : (lane : LaneState) (x : ℕ) (to : Option Place) → IsLane lane → IsLane (option_map_or (λ place. with_held lane place x) to lane)
+IsLane-written lane x None is = is
+IsLane-written lane x (Some (Reg n)) is =
+    record { rules = is.rules; channel_in = is.channel_in; sixteen = length-set lane.registers n x ∙ is.sixteen; eight = is.eight }
+IsLane-written lane x (Some (Scratch n)) is =
+    record { rules = is.rules; channel_in = is.channel_in; sixteen = is.sixteen; eight = length-set lane.scratch n x ∙ is.eight }
+IsLane-written lane x (Some (Word n)) is =
+    record { rules = is.rules; channel_in = is.channel_in; sixteen = is.sixteen; eight = is.eight }
+
+pub IsLane-after : (book : Book) (op : MicroOp) (lane : LaneState) → IsLane lane → IsLane (lane_after book op lane)
+unfolding lane_after
+IsLane-after book op lane is =
+    let written = IsLane-written lane (answer_of book op lane) (destination op) is in
+    record { rules = written.rules; channel_in = written.channel_in; sixteen = written.sixteen; eight = written.eight }
 
 -- ---- answers
 option_below : (m value : ℕ) (fault : Option ℕ) → 0 < m → value < m → option_map_or (λ f. f % m) fault value < m

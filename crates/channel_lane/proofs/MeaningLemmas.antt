@@ -1,25 +1,47 @@
 -- A lane that holds the residues of integers, through an operation without a fault.
-use Rattle.std.proofs.Common.{◌≡◌, ◌≢◌, ℕ, ◌+◌, ◌*◌, ◌%◌, ◌<◌, ◌==◌, Bool, true, false, cond, List, length, slice_index, slice_set, Option, None, Some, refl, sym, ap, ◌∙◌, subst, arith, inl, inr, ℤ, pos, neg_ℤ, ◌-ℤ◌, ◌*ℤ◌}
+use Rattle.std.proofs.Common.{◌≡◌, ◌≢◌, ℕ, ◌+◌, ◌*◌, ◌%◌, ◌<◌, ◌==◌, Bool, true, false, cond, List, length, replicate, slice_index, slice_set, Option, None, Some, refl, sym, ap, ◌∙◌, subst, arith, inl, inr, ℤ, pos, neg_ℤ, ◌-ℤ◌, ◌*ℤ◌}
 use Rattle.std.specs.Option.{option_map_or}
 use Rattle.std.proofs.lemmas.Bool.{cases_eq, cases_lt, ne_eqb}
 use Rattle.std.proofs.lemmas.Bool.Decides.{nat_tests}
 use Rattle.std.proofs.lemmas.Grind.{get_or-set_at}
-use Rattle.std.proofs.lemmas.List.{get_or-set_other}
+use Rattle.std.proofs.lemmas.List.{get_or-map, get_or-replicate, get_or-set_other, length-map}
 use Rattle.std.proofs.lemmas.List.Elements.{All-get_or}
+use Rattle.std.proofs.Math.Nat.{mod-eq_of_lt}
 use Rattle.number_theory.specs.Residue.{residue, quotient}
 use Rattle.number_theory.specs.Coprime.{IsCoprime, ArePairwiseCoprime, inverse_of}
 use Rattle.number_theory.proofs.CoprimeLemmas.{IsCoprime-swap}
 use Rattle.number_theory.proofs.QuotientLemmas.{residue-quotient_coprime}
 use Rattle.number_theory.proofs.ResidueLemmas.{residue-residue, residue-add, residue-sub, residue-mul, residue-neg}
-use Rattle.moduli_sets.specs.Set.{IsModulus}
+use Rattle.moduli_sets.specs.Set.{ModuliSet, IsModuliSet, IsModulus}
 use Rattle.channel_alu.specs.declared.operation.Place.{Place}
 use Rattle.channel_alu.specs.declared.operation.Place.TheVariants.{Reg, Scratch, Word}
 use Rattle.channel_alu.specs.declared.operation.MicroOp.{MicroOp}
 use Rattle.channel_alu.specs.declared.operation.MicroOp.TheVariants.{Put, Copy, Add, Sub, Mul, MulAdd, Neg, Unscale, Show}
 use Rattle.fault_book.specs.Book.{Book, fault_at}
-use Rattle.channel_lane.specs.Meaning.{HasPlace, CanPerform, IsExact, destination, meaning_of, same_place, with_integer, integers_after}
-use Rattle.channel_lane.specs.Lane.{LaneState, IsLane, HoldsResidues, modulus_of, held_in, with_held, unscaled_value, value_of, answer_of, lane_after}
+use Rattle.channel_lane.specs.Meaning.{HasPlace, CanPerform, IsExact, destination, meaning_of, same_place, with_integer, integers_at_start, integers_after}
+use Rattle.channel_lane.specs.Lane.{LaneState, IsLane, HoldsResidues, lane_at_start, modulus_of, held_in, with_held, unscaled_value, value_of, answer_of, lane_after}
 use Rattle.channel_lane.proofs.LaneLemmas.{answer_of-value, set-after, channel-after, words-after}
+
+-- ---- a new lane
+-- 0 is its own residue
+residue-zero : (m : ℕ) → 0 < m → residue (pos 0) m ≡ 0
+residue-zero m p = mod-eq_of_lt p
+
+pub HoldsResidues-at_start : (set : ModuliSet) (start : List ℤ) (channel : ℕ) → IsModuliSet set → channel < length set.moduli → HoldsResidues (lane_at_start set start channel) (integers_at_start start)
+HoldsResidues-at_start set start channel rules within place inside = holds place inside
+  where
+    m : ℕ
+    m = slice_index set.moduli channel
+
+    zero_holds : (n i : ℕ) → i < n → slice_index (replicate n 0) i ≡ residue (pos 0) m
+    zero_holds n i h =
+        let at_m : IsModulus m = All-get_or IsModulus set.moduli channel 0 within rules.moduli in
+        get_or-replicate n i 0 0 h ∙ sym (residue-zero m (omega (arith, at_m.at_least_two)))
+
+    holds : (place : Place) → HasPlace (length (lane_at_start set start channel).words) place → held_in (lane_at_start set start channel) place ≡ residue (integers_at_start start place) m
+    holds (Reg n) h = zero_holds 16 n h
+    holds (Scratch n) h = zero_holds 8 n h
+    holds (Word n) h = get_or-map (λ x. residue x m) start n (pos 0) 0 (omega (arith, length-map start (λ x. residue x m)))
 
 -- ---- an Unscale
 coprime_moduli : (ms : List ℕ) (i j : ℕ) → ArePairwiseCoprime ms → i ≢ j → i < length ms → j < length ms → IsCoprime (slice_index ms i) (slice_index ms j)

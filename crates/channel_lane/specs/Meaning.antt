@@ -1,5 +1,5 @@
 -- What a micro-operation means over plain integers, one at each place.
-use Rattle.std.specs.Prelude.{◌≡◌, ℕ, ℤ, neg_ℤ, ◌+ℤ◌, ◌-ℤ◌, ◌*ℤ◌, ◌<◌, ◌==◌, Bool, false, List, slice_index, Option, Some, None, if◌then◌else◌}
+use Rattle.std.specs.Prelude.{◌≡◌, ℕ, ℤ, pos, neg_ℤ, ◌+ℤ◌, ◌-ℤ◌, ◌*ℤ◌, ◌<◌, ◌==◌, Bool, false, not, List, slice_index, slice_index_or, Option, Some, None, is_some, if◌then◌else◌}
 use Rattle.std.specs.Option.{option_map_or}
 use Rattle.number_theory.specs.Residue.{residue, quotient}
 use Rattle.channel_alu.specs.declared.operation.Place.{Place}
@@ -39,6 +39,9 @@ destination (MulAdd to left right plus) = Some to
 destination (Neg to from) = Some to
 destination (Unscale to from channel take give) = Some to
 destination (Show from) = None
+
+abbrev pub is_show : MicroOp → Bool
+is_show op = not (is_some (destination op))
 
 -- ---- what is computed
 -- what an operation makes of the integers at places, where `unscale` says what an Unscale makes of an integer, by the
@@ -84,6 +87,12 @@ same_place (Scratch m) (Word n) = false
 same_place (Word m) (Reg n) = false
 same_place (Word m) (Scratch n) = false
 same_place (Word m) (Word n) = m == n
+
+-- the integers at places as channels are made with these data words: 0 in registers and scratch places
+abbrev pub integers_at_start : List ℤ → Place → ℤ
+integers_at_start start (Reg n) = pos 0
+integers_at_start start (Scratch n) = pos 0
+integers_at_start start (Word n) = slice_index_or start n (pos 0)
 
 -- the integers at places, with another one at a place
 abbrev pub with_integer : (Place → ℤ) → Place → ℤ → Place → ℤ

@@ -1,10 +1,11 @@
 ghost use Rattle.number_theory.specs.Residue.{residue};
-ghost use Rattle.std.specs.Prelude.{◌≡◌, ◌+◌, ◌<◌, ℤ, List, [], ◌∷◌, ◌++◌, length};
+ghost use Rattle.moduli_sets.specs.Set.{ModuliSet, IsModuliSet};
+ghost use Rattle.std.specs.Prelude.{◌≡◌, ◌+◌, ◌<◌, ℕ, ℤ, List, [], ◌∷◌, ◌++◌, length};
 ghost use Rattle.channel_alu.specs.declared.operation.MicroOp.{MicroOp};
 ghost use Rattle.channel_alu.specs.declared.operation.Place.{Place};
 ghost use Rattle.fault_book.specs.Book.{Book, fault_at};
-ghost use Rattle.channel_lane.specs.Meaning.{CanPerform, IsExact, integers_after, meaning_of};
-ghost use Rattle.channel_lane.specs.Lane.{HoldsResidues, IsLane, LaneState, answer_of, lane_after, lane_after_all, modulus_of, value_of};
+ghost use Rattle.channel_lane.specs.Meaning.{CanPerform, IsExact, integers_after, integers_at_start, meaning_of};
+ghost use Rattle.channel_lane.specs.Lane.{HoldsResidues, IsLane, LaneState, answer_of, lane_after, lane_after_all, lane_at_start, modulus_of, value_of};
 
 /// A lane stays the lane of its channel through any list of operations: each is counted, the words keep their
 /// number, and what could be performed still can. An answer is a residue. A list may be performed in two parts.
@@ -32,8 +33,20 @@ pub fn laws_of_lanes()
 
 /// What an operation means, it does to the residues. Where a lane holds the residues of integers, and the numbers of an
 /// Unscale are those of its integer, the value of an operation is the residue of what it means; and without a fault the
-/// lane after it holds the residues of the integers after it.
+/// lane after it holds the residues of the integers after it. A new lane holds the residues of the integers that it is
+/// made with, and it and each lane after an operation is a lane of its set: so the laws hold again after it.
 pub fn law_of_meanings()
+    ensures new { (set : ModuliSet) (start : List ℤ) (channel : ℕ)
+        → IsModuliSet set
+        → channel < length set.moduli
+        → IsLane (lane_at_start set start channel) }
+    ensures start { (set : ModuliSet) (start : List ℤ) (channel : ℕ)
+        → IsModuliSet set
+        → channel < length set.moduli
+        → HoldsResidues (lane_at_start set start channel) (integers_at_start start) }
+    ensures lane { (book : Book) (op : MicroOp) (lane : LaneState)
+        → IsLane lane
+        → IsLane (lane_after book op lane) }
     ensures value { (lane : LaneState) (at : Place → ℤ) (op : MicroOp)
         → IsLane lane
         → CanPerform (length lane.words) (length lane.set.moduli) op

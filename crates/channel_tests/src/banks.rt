@@ -14,7 +14,7 @@ const TO: Place = Place::Reg(0);
 const FIRST: Place = Place::Word(0);
 
 /// Whether a vector has these residues.
-fn is_vector(vector: &Vector, residues: &[u32]) -> bool {
+pub(crate) fn is_vector(vector: &Vector, residues: &[u32]) -> bool {
     vector.len() == residues.len()
         && residues.iter().enumerate().all(|(i, residue)| i < vector.len()
             && vector.at(i) == *residue)

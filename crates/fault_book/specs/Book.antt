@@ -1,5 +1,5 @@
 -- Faults of channels: wrong answers, told by the channel and the number of the answer.
-use Rattle.std.specs.Prelude.{ℕ, ◌==◌, Bool, not, List, length, slice_index, Option, count_by}
+use Rattle.std.specs.Prelude.{ℕ, ◌==◌, Bool, Option, count_by}
 use Rattle.std.specs.declared.cmp.Ordering.{Ordering}
 use Rattle.std.specs.Ordering.{nat_cmp, ordering_then}
 use Rattle.std.specs.List.{list_any, range_with_len}
@@ -28,7 +28,3 @@ is_faulty book channel = list_any (λ answer. answer.0 == channel) (map.keys boo
 -- how many different channels it has faults of; a set has 12 channels at the most
 abbrev pub faulty_channels : Book → ℕ
 faulty_channels book = count_by (is_faulty book) (range_with_len 0 12)
-
--- in how many places two columns differ
-abbrev pub differing_places : List ℕ → List ℕ → ℕ
-differing_places xs ys = count_by (λ i. not (slice_index xs i == slice_index ys i)) (range_with_len 0 (length xs))

@@ -1,2 +1,3 @@
+pub use Rattle.number_theory.specs.Distance
 pub mod Book
 pub mod Invariant

@@ -1,8 +1,9 @@
 ghost use Rattle.std.specs.Prelude.{◌≡◌, ◌<◌, ◌≤◌, ℕ, None, false, List, length, slice_index};
-ghost use Rattle.fault_book.specs.Book.{Book, differing_places, fault_at, faulty_channels, is_faulty};
+ghost use Rattle.number_theory.specs.Distance.{distance};
+ghost use Rattle.fault_book.specs.Book.{Book, fault_at, faulty_channels, is_faulty};
 
-/// A channel that the book doesn't name has no fault. So columns that agree in each channel that isn't named differ in
-/// no more places than there are named channels.
+/// A channel that the book doesn't name has no fault. So columns that agree in each channel that isn't named are at a
+/// distance of no more than the number of named channels.
 pub fn laws_of_faults()
     ensures unnamed { (book : Book) (channel number : ℕ)
         → is_faulty book channel ≡ false
@@ -13,5 +14,5 @@ pub fn laws_of_faults()
         → channel < length xs
         → is_faulty book channel ≡ false
         → slice_index xs channel ≡ slice_index ys channel)
-        → differing_places xs ys ≤ faulty_channels book }
+        → distance xs ys ≤ faulty_channels book }
 {}

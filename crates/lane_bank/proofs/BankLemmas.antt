@@ -13,8 +13,8 @@ use Rattle.channel_alu.specs.declared.operation.MicroOp.{MicroOp}
 use Rattle.fault_book.specs.Book.{Book}
 use Rattle.channel_lane.specs.Meaning.{CanPerform}
 use Rattle.channel_lane.specs.Lane.{LaneState, modulus_of, answer_of, lane_at_start, lane_after_all}
-use Rattle.channel_lane.proofs.LaneLemmas.{CanPerform-after_all, set-after_all, channel-after_all, answer-below}
-use Rattle.lane_bank.specs.Bank.{no_lane, lane_at, lanes_at_start}
+use Rattle.channel_lane.proofs.LaneLemmas.{CanPerform-after_all, set-after_all, channel-after_all, answers-after_all, after_all-parts, answer-below}
+use Rattle.lane_bank.specs.Bank.{AllCanPerform, no_lane, lane_at, lanes_at_start, lanes_after, lanes_after_all, answers_of}
 
 -- where the elements before place i are mapped, that at i is still the old one
 pub get_or-mapped : {X : Type 0} (f : X → X) (xs ys : List X) (i : ℕ) (d : X) → i < length xs → ys ≡ map f (take i xs) ++ drop i xs → get_or ys i d ≡ get_or xs i d
@@ -24,6 +24,10 @@ get_or-mapped f xs ys i d h e =
     ap (λ zs. get_or zs i d) (e ∙ ap (λ rest. done ++ rest) (drop-cons xs i d h))
     ∙ ap (λ k. get_or (done ++ get_or xs i d ∷ drop (suc i) xs) k d) (sym count)
     ∙ get_or-append_seam done (get_or xs i d) (drop (suc i) xs) d
+
+-- and so what holds of each old element holds of it
+pub All-get_or-mapped : {X : Type 0} (P : X → Type 0) (f : X → X) (xs ys : List X) (i : ℕ) (d : X) → i < length xs → All P xs → ys ≡ map f (take i xs) ++ drop i xs → P (get_or ys i d)
+All-get_or-mapped P f xs ys i d h each e = subst P (sym (get_or-mapped f xs ys i d h e)) (All-get_or P xs i d h each)
 
 length-mapped : {X : Type 0} (f : X → X) (xs ys : List X) (i : ℕ) → i < length xs → ys ≡ map f (take i xs) ++ drop i xs → length ys ≡ length xs
 length-mapped f xs ys i h e =
@@ -63,6 +67,16 @@ All-lanes_at_start P s first start each =
     let within : first + i < length s.moduli = omega (arith, length-lanes_at_start s first start) in
     subst P (sym (lane_at-start s first i start within)) (each (first + i) within))
 
+-- no new lane has answered, and a lane has answered each operation once
+pub fresh-lanes_at_start : (s : ModuliSet) (first : ℕ) (start : List ℤ) → All (λ lane. lane.answers ≡ 0) (lanes_at_start s first start)
+fresh-lanes_at_start s first start = All-lanes_at_start (λ lane. lane.answers ≡ 0) s first start (λ channel _. refl)
+
+pub answers-lanes : (book : Book) (s : ModuliSet) (first : ℕ) (start : List ℤ) (ops : List MicroOp) → All (λ lane. lane.answers ≡ length ops) (lanes_after_all book ops (lanes_at_start s first start))
+answers-lanes book s first start ops =
+    All-map (λ lane. lane.answers ≡ length ops) (lane_after_all book ops) (lanes_at_start s first start)
+    (All-lanes_at_start (λ lane. (lane_after_all book ops lane).answers ≡ length ops) s first start
+    (λ channel _. omega (arith, answers-after_all book ops (lane_at_start s start channel))))
+
 -- one condition for all lanes of a new bank
 can_at_start : (s : ModuliSet) (start : List ℤ) (op : MicroOp) (channel : ℕ) → CanPerform (length start) (length s.moduli) op
     → CanPerform (length (lane_at_start s start channel).words) (length s.moduli) op
@@ -70,18 +84,35 @@ can_at_start s start op channel =
     subst (λ words. CanPerform words (length s.moduli) op) (sym (length-map start (λ x. residue x (slice_index s.moduli channel))))
 
 pub CanPerform-at_start : (s : ModuliSet) (first : ℕ) (start : List ℤ) (op : MicroOp) → CanPerform (length start) (length s.moduli) op
-    → All (λ lane. CanPerform (length lane.words) (length lane.set.moduli) op) (lanes_at_start s first start)
+    → AllCanPerform (lanes_at_start s first start) op
 CanPerform-at_start s first start op h =
     All-lanes_at_start (λ lane. CanPerform (length lane.words) (length lane.set.moduli) op) s first start (λ channel _. can_at_start s start op channel h)
 
 -- and of a bank after any operations
 pub CanPerform-lanes : (book : Book) (s : ModuliSet) (first : ℕ) (start : List ℤ) (ops : List MicroOp) (op : MicroOp) → CanPerform (length start) (length s.moduli) op
-    → All (λ lane. CanPerform (length lane.words) (length lane.set.moduli) op) (map (lane_after_all book ops) (lanes_at_start s first start))
+    → AllCanPerform (lanes_after_all book ops (lanes_at_start s first start)) op
 CanPerform-lanes book s first start ops op h =
     let can : LaneState → Type 0 = λ lane. CanPerform (length lane.words) (length lane.set.moduli) op in
     All-map can (lane_after_all book ops) (lanes_at_start s first start)
     (All-lanes_at_start (λ lane. can (lane_after_all book ops lane)) s first start (λ channel _. CanPerform-after_all book ops (lane_at_start s start channel) op (can_at_start s start op channel h)))
 
+-- ---- lanes in parts
+pub lanes_after_all-none : (book : Book) (lanes : List LaneState) → lanes_after_all book [] lanes ≡ lanes
+lanes_after_all-none book [] = refl
+lanes_after_all-none book (lane ∷ lanes) = ap (λ rest. lane ∷ rest) (lanes_after_all-none book lanes)
+
+pub lanes_after_all-parts : (book : Book) (ops more : List MicroOp) (lanes : List LaneState) → lanes_after_all book (ops ++ more) lanes ≡ lanes_after_all book more (lanes_after_all book ops lanes)
+lanes_after_all-parts book ops more [] = refl
+lanes_after_all-parts book ops more (lane ∷ lanes) =
+    ap (λ l. l ∷ lanes_after_all book (ops ++ more) lanes) (after_all-parts book ops more lane)
+    ∙ ap (λ rest. lane_after_all book more (lane_after_all book ops lane) ∷ rest) (lanes_after_all-parts book ops more lanes)
+
+-- with one operation more
+pub lanes_after_all-more : (book : Book) (ops : List MicroOp) (op : MicroOp) (start lanes after : List LaneState) → lanes ≡ lanes_after_all book ops start → after ≡ lanes_after book op lanes → after ≡ lanes_after_all book (ops ++ op ∷ []) start
+lanes_after_all-more book ops op start lanes after e step =
+    step ∙ ap (lanes_after book op) e ∙ sym (lanes_after_all-parts book ops (op ∷ []) start)
+
+-- ---- columns
 -- one residue for each modulus
 AreResidues-by_place : (ms rs : List ℕ) → length rs ≡ length ms → ((i : ℕ) → i < length ms → get_or rs i 0 < get_or ms i 0) → AreResidues ms rs
 AreResidues-by_place [] [] e below = tt
@@ -97,7 +128,7 @@ modulus-run book s start ops channel =
 
 -- the column of an operation is residues of the moduli
 pub AreResidues-column : (book : Book) (s : ModuliSet) (start : List ℤ) (ops : List MicroOp) (op : MicroOp) → IsModuliSet s
-    → AreResidues s.moduli (map (answer_of book op) (map (lane_after_all book ops) (lanes_at_start s 0 start)))
+    → AreResidues s.moduli (answers_of book op (lanes_after_all book ops (lanes_at_start s 0 start)))
 AreResidues-column book s start ops op rules =
     let lanes = lanes_at_start s 0 start in
     let run = lane_after_all book ops in

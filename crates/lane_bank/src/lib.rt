@@ -14,6 +14,6 @@ mod set_banks;
 pub use bank::Bank;
 pub use banks::{Cons, Nil};
 pub use channel_lane::Lane;
-pub use column::perform_in_all;
-pub use laws::{lanes_of_new_banks, lanes_of_runs};
+pub use column::{issue_to_all, perform_in_all, stored_in_all};
+pub use laws::{lanes_in_parts, lanes_of_new_banks, lanes_of_runs};
 pub use set_banks::{DeskBank, HallBank, PocketBank, banks_fit_their_sets};

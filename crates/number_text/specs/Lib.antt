@@ -1,1 +1,4 @@
+pub use Rattle.plain_text.specs.Digits
+pub use Rattle.plain_text.specs.Words
 pub mod Lines
+pub mod Input

@@ -1,11 +1,16 @@
-//! Lines of text with numbers in them.
+//! Numbers as text: those that an input writes, and lines with numbers in them.
 //!
-//! In come words and numbers, out goes a line that ends with LF. Whoever prints numbers builds the lines here; the crate
-//! stands on the kit's `arrayvec` and `itoa` alone, and takes no memory.
+//! In comes the text of an input, out go its numbers, or the place of the first word that is none. In come words and
+//! numbers, out goes a line that ends with LF: whoever prints numbers builds the lines here. The crate stands on
+//! `plain_text` and the kit's `arrayvec` and `itoa`; only reading takes memory.
 #![tactic(auto)]
 
+mod input;
+mod laws;
 mod line;
 #[cfg(test)]
 mod tests;
 
+pub use input::{InputFault, read_numbers};
+pub use laws::one_reading;
 pub use line::{Line, line_of};

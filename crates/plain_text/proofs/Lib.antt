@@ -2,3 +2,5 @@ pub mod DigitValues
 pub mod DigitPrefix
 pub mod LineCounts
 pub mod WholeNumbers
+pub mod WordLemmas
+mod Rows

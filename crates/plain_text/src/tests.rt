@@ -1,4 +1,6 @@
-use super::{digits_len, integer_up_to, is_integer, line_feeds, number_up_to};
+use super::{
+    WHITE_SPACE, Word, digits_len, integer_up_to, is_integer, line_feeds, next_word, number_up_to,
+};
 
 const GREATEST: u128 = 170141183460469231731687303715884105727;
 
@@ -51,4 +53,19 @@ fn integers_up_to_a_limit(rt: HostRuntime) {
         let read = is_integer(word).then(|| integer_up_to(word, 97));
         assert_eq!(rt; read, value);
     }
+}
+
+#[test]
+fn words_of_a_text(rt: HostRuntime) {
+    let text = b" \r12\t-3\x0b4\n";
+    assert_eq!(rt;
+        next_word(text, 0, &WHITE_SPACE),
+        Some(Word { start: 2, end: 4 })
+    );
+    assert_eq!(rt;
+        next_word(text, 4, &WHITE_SPACE),
+        Some(Word { start: 5, end: 9 })
+    );
+    assert_eq!(rt; next_word(text, 9, &WHITE_SPACE), None);
+    assert_eq!(rt; next_word(text, 0, b" \t"), Some(Word { start: 1, end: 4 }));
 }

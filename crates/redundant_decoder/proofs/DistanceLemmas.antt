@@ -5,7 +5,8 @@ use Rattle.std.proofs.lemmas.Bool.{cases_eq, cases_lt, ne_eqb}
 use Rattle.std.proofs.lemmas.Bool.Decides.{nat_tests}
 use Rattle.std.proofs.lemmas.List.{length-map}
 use Rattle.std.proofs.lemmas.List.Edits.{length-remove}
-use Rattle.redundant_decoder.specs.Nearest.{distance, without, different_places}
+use Rattle.number_theory.specs.Distance.{distance}
+use Rattle.redundant_decoder.specs.Nearest.{without, different_places}
 
 -- ---- one place
 -- what one place adds to the distance

@@ -8,7 +8,8 @@ use Rattle.number_theory.specs.Residue.{residue}
 use Rattle.number_theory.proofs.CoprimeLemmas.{same_from_residues_within}
 use Rattle.moduli_sets.specs.Set.{ModuliSet, IsInRange, IsModulus, IsModuliSet, information, redundant, radius, information_product, range_bound}
 use Rattle.moduli_sets.specs.Vector.{vector_of}
-use Rattle.redundant_decoder.specs.Nearest.{part, distance, without}
+use Rattle.number_theory.specs.Distance.{distance}
+use Rattle.redundant_decoder.specs.Nearest.{part, without}
 use Rattle.redundant_decoder.proofs.DistanceLemmas.{length-remove_least}
 use Rattle.redundant_decoder.proofs.PartLemmas.{ArePairwiseCoprime-part, product-part, agreeing_places, length-agreeing, map-agreeing, all_kept, all_but, part-all_kept, part-all_but, remove-map}
 

@@ -7,7 +7,8 @@ use Rattle.std.proofs.lemmas.List.Kept.{AllPairs-cons}
 use Rattle.std.proofs.Math.Nat.{pow-zero, pow-succ', mul-one, mul_assoc, mul_left_comm, mul-le-mul, mul-le-mul_left, mul-le-mul_right}
 use Rattle.number_theory.specs.Coprime.{IsCoprime, ArePairwiseCoprime, product}
 use Rattle.number_theory.proofs.CoprimeLemmas.{ArePairwiseCoprime-head, ArePairwiseCoprime-tail}
-use Rattle.redundant_decoder.specs.Nearest.{part, distance}
+use Rattle.number_theory.specs.Distance.{distance}
+use Rattle.redundant_decoder.specs.Nearest.{part}
 
 -- ---- coprime numbers
 -- what holds of each element holds of each in a part

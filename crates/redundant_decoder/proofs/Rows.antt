@@ -3,7 +3,8 @@ use Rattle.std.specs.Prelude.{◌≡◌, [], ◌∷◌, true, false, Some, None,
 use Rattle.moduli_sets.specs.declared.set_name.SetName.TheVariants.{Pocket}
 use Rattle.moduli_sets.specs.Name.{set_of_name}
 use Rattle.moduli_sets.specs.Vector.{vector_of}
-use Rattle.redundant_decoder.specs.Nearest.{different_places, distance, part, without}
+use Rattle.number_theory.specs.Distance.{distance}
+use Rattle.redundant_decoder.specs.Nearest.{different_places, part, without}
 
 -- the vector of 42 with a wrong residue in channel 4
 one_wrong : different_places None (vector_of (set_of_name Pocket).moduli (pos 42)) (3 ∷ 12 ∷ 10 ∷ 8 ∷ 9 ∷ []) ≡ 4 ∷ []

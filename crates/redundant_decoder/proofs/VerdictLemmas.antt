@@ -5,7 +5,8 @@ use Rattle.std.proofs.lemmas.List.{length-map}
 use Rattle.number_theory.specs.Residue.{residue, AreResidues}
 use Rattle.moduli_sets.specs.Set.{ModuliSet, IsInRange, IsModuliSet, radius}
 use Rattle.moduli_sets.specs.Vector.{vector_of}
-use Rattle.redundant_decoder.specs.Nearest.{distance, without, different_places, IsNearest}
+use Rattle.number_theory.specs.Distance.{distance}
+use Rattle.redundant_decoder.specs.Nearest.{without, different_places, IsNearest}
 use Rattle.redundant_decoder.specs.Verdict.{IsCorrection, IsVerdict, HasInteger}
 use Rattle.redundant_decoder.specs.declared.decoder.Verdict.{Verdict}
 use Rattle.redundant_decoder.specs.declared.decoder.Verdict.TheVariants.{Clean, Corrected, Damaged}

@@ -1,5 +1,6 @@
 pub use Rattle.number_theory.specs.Residue
 pub use Rattle.number_theory.specs.Coprime
+pub use Rattle.number_theory.specs.Distance
 pub use Rattle.moduli_sets.specs.Set
 pub use Rattle.moduli_sets.specs.Moduli
 pub use Rattle.moduli_sets.specs.Vector

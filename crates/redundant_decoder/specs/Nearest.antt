@@ -1,6 +1,7 @@
--- The distance of vectors, and the nearest integer of a vector.
-use Rattle.std.specs.Prelude.{◌≢◌, ℕ, zero, suc, ◌+◌, ◌<◌, ◌≤◌, ◌==◌, ℤ, Bool, true, false, List, [], ◌∷◌, ◌++◌, map, length, slice_index, Option, Some, None, if◌then◌else◌}
+-- The places in which vectors differ, and the nearest integer of a vector.
+use Rattle.std.specs.Prelude.{◌≢◌, ℕ, zero, suc, ◌<◌, ◌≤◌, ◌==◌, ℤ, Bool, true, false, List, [], ◌∷◌, ◌++◌, map, length, slice_index, Option, Some, None, if◌then◌else◌}
 use Rattle.std.specs.List.{remove}
+use Rattle.number_theory.specs.Distance.{distance}
 use Rattle.moduli_sets.specs.Set.{ModuliSet, IsInRange}
 use Rattle.moduli_sets.specs.Vector.{vector_of}
 
@@ -10,12 +11,6 @@ part [] xs = []
 part (keep ∷ keeps) [] = []
 part (true ∷ keeps) (x ∷ xs) = x ∷ part keeps xs
 part (false ∷ keeps) (x ∷ xs) = part keeps xs
-
--- the number of places in which two lists differ (Hamming)
-abbrev pub distance : List ℕ → List ℕ → ℕ
-distance [] ys = 0
-distance (x ∷ xs) [] = 0
-distance (x ∷ xs) (y ∷ ys) = (if x == y then 0 else 1) + distance xs ys
 
 -- the list without what stands at the erased place, where there is one
 abbrev pub without : Option ℕ → List ℕ → List ℕ
