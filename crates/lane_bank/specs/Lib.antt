@@ -5,3 +5,4 @@ pub use Rattle.fault_book.specs.Book
 pub use Rattle.channel_lane.specs.Meaning
 pub use Rattle.channel_lane.specs.Lane
 pub mod Bank
+pub mod Lanes

@@ -1,0 +1,10 @@
+//! What an instruction asks of the channels: micro-operations, places to be shown, and how control goes on by what it is
+//! told; and the plans of scaling and division, one operation after another.
+//!
+//! In come instructions and the integers that are told; out go micro-operations. The crate stands on `machine_table` and on
+//! the operations of `channel_alu`; the machine stands on it.
+#![tactic(auto)]
+
+mod next;
+
+pub use next::Next;

@@ -1,0 +1,12 @@
+pub use Rattle.redundant_decoder.specs.Nearest
+pub use Rattle.fault_book.specs.Book
+pub use Rattle.channel_lane.specs.Lane
+pub use Rattle.lane_bank.specs.Lanes
+pub use Rattle.machine_table.specs.Control
+pub use Rattle.machine_table.specs.Integers
+pub use Rattle.micro_plan.specs.ActTree
+pub use Rattle.micro_plan.specs.Acts
+pub use Rattle.micro_plan.specs.Told
+pub mod Trace
+pub mod Decoded
+pub mod Runs
