@@ -5,4 +5,3 @@ pub use Rattle.fault_book.specs.Book
 pub use Rattle.channel_lane.specs.Meaning
 pub use Rattle.channel_lane.specs.Lane
 pub mod Bank
-pub mod Lanes

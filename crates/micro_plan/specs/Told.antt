@@ -1,8 +1,8 @@
 -- Acts over plain integers, one at each place: what they leave where they are told the integers that are held.
-use Rattle.std.specs.Prelude.{ℕ, ℤ, pos, List, slice_index_or}
+use Rattle.std.specs.Prelude.{ℕ, ℤ, List}
 use Rattle.moduli_sets.specs.Set.{ModuliSet, IsInRange}
 use Rattle.channel_alu.specs.declared.operation.Place.{Place}
-use Rattle.channel_alu.specs.declared.operation.Place.TheVariants.{Reg, Scratch, Word}
+use Rattle.channel_alu.specs.declared.operation.Place.TheVariants.{Reg, Word}
 use Rattle.channel_lane.specs.Meaning.{IsExact, integers_after}
 use Rattle.machine_table.specs.Integers.{Memory, IntegerRun, prints, stands, stops}
 use Rattle.micro_plan.specs.ActTree.{Acts, issue, ask, print, go_on, end_by}
@@ -10,12 +10,6 @@ use Rattle.micro_plan.specs.ActTree.{Acts, issue, ask, print, go_on, end_by}
 -- what the integer machine knows of the integers at places
 abbrev pub memory_of : (Place → ℤ) → Memory
 memory_of at = record { registers = λ a. at (Reg a); words = λ p. at (Word p) }
-
--- the integers at the places at the start: the data in the words, 0 elsewhere
-abbrev pub integers_at_start : List ℤ → Place → ℤ
-integers_at_start words (Reg a) = pos 0
-integers_at_start words (Scratch s) = pos 0
-integers_at_start words (Word p) = slice_index_or words p (pos 0)
 
 -- the run of the integer machine that acts come to
 abbrev pub integers_by : List ℕ → Acts → (Place → ℤ) → IntegerRun

@@ -1,8 +1,9 @@
 -- The nearest integer of a vector, as a function. It is never computed.
 use Rattle.std.specs.Prelude.{ℕ, zero, suc, ℤ, pos, negsuc, nat_le, Bool, List, Option, Some, None, if◌then◌else◌}
+use Rattle.number_theory.specs.Distance.{distance}
 use Rattle.moduli_sets.specs.Set.{ModuliSet, range_bound}
 use Rattle.moduli_sets.specs.Vector.{vector_of}
-use Rattle.redundant_decoder.specs.Nearest.{distance, without}
+use Rattle.redundant_decoder.specs.Nearest.{without}
 
 -- x is within distance t of v; an erased channel counts for nothing
 abbrev pub is_close : ℕ → Option ℕ → List ℕ → List ℕ → ℤ → Bool

@@ -1,7 +1,7 @@
 pub use Rattle.redundant_decoder.specs.Nearest
 pub use Rattle.fault_book.specs.Book
 pub use Rattle.channel_lane.specs.Lane
-pub use Rattle.lane_bank.specs.Lanes
+pub use Rattle.lane_bank.specs.Bank
 pub use Rattle.machine_table.specs.Control
 pub use Rattle.machine_table.specs.Integers
 pub use Rattle.micro_plan.specs.ActTree

@@ -8,7 +8,7 @@ use Rattle.channel_alu.specs.declared.operation.MicroOp.TheVariants.{Show}
 use Rattle.fault_book.specs.Book.{Book}
 use Rattle.channel_lane.specs.Meaning.{integers_after}
 use Rattle.channel_lane.specs.Lane.{LaneState}
-use Rattle.lane_bank.specs.Lanes.{column_of, lanes_after, lanes_after_all}
+use Rattle.lane_bank.specs.Bank.{column_of, lanes_after, lanes_after_all}
 use Rattle.machine_table.specs.declared.instr.Instr.{Instr}
 use Rattle.machine_table.specs.Control.{Control}
 use Rattle.machine_table.specs.Integers.{instruction_at}
