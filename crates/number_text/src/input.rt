@@ -26,7 +26,7 @@ impl<T: Drop> From<AllocFailed<T>> for InputFault {
 
 /// The numbers of an input: words parted by space, tab, CR and LF, each an optional minus and one decimal digit or
 /// more. A number past the ends of i128 is held as the nearer end. BadNumber at the first word that is no such number,
-/// NoMemory where memory runs out. The time is linear in the text.
+/// NoMemory where memory runs out.
 pub fn read_numbers(alloc: Global, text: &[u8]) -> Result<Vec<i128>, InputFault>
     ensures { MatchResult result
         (λ numbers. AreNumbers (input_words text.now) numbers.items)

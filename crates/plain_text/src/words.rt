@@ -12,8 +12,8 @@ pub struct Word {
     pub end: usize,
 }
 
-/// The first word of a text from a place on that no word goes over: words are parted by the bytes of `separators`. None
-/// where there is no word any more. The time is linear in the bytes that it goes over.
+/// The first word of a text from a place on that isn't within a word; the bytes of `separators` part words. None where
+/// there is no word any more.
 pub fn next_word(text: &[u8], place: usize, separators: &[u8]) -> Option<Word>
     requires { place ≤ length text.now }
     ensures { MatchOption result (words_from separators.now false place (drop place text.now) ≡ [])
