@@ -1,0 +1,2 @@
+pub use Rattle.source_tree.specs.Numbers
+pub mod Names
