@@ -1,3 +1,8 @@
+ghost use Rattle.std.specs.Prelude.{◌≡◌};
+ghost use Rattle.name_check.specs.declared.fault.NameFault.TheVariants.{NoMemory};
+
+use std::alloc::AllocError;
+
 /// The first rule of names that a program breaks. Each but the last has the line of the name at fault; `BadRange` of a
 /// variable or an array has that of its declaration.
 #[derive(Clone, Copy, Debug, PartialEq, Eq)]
@@ -20,4 +25,12 @@ pub enum NameFault {
     TooMany(u32),
     /// Memory ran out.
     NoMemory,
+}
+
+impl From<AllocError> for NameFault {
+    ghost from_gives = { λ _ fault. fault ≡ NoMemory };
+
+    fn from(_error: AllocError) -> Self {
+        NameFault::NoMemory
+    }
 }

@@ -5,5 +5,7 @@
 #![tactic(auto)]
 
 mod fault;
+mod symbols;
+mod uses;
 
 pub use fault::NameFault;
