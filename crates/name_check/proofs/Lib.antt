@@ -1,1 +1,2 @@
 pub mod SymbolLemmas
+pub mod WalkLemmas

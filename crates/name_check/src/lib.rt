@@ -4,7 +4,9 @@
 //! that the source breaks, with its line.
 #![tactic(auto)]
 
+mod expressions;
 mod fault;
+mod statements;
 mod symbols;
 mod uses;
 
