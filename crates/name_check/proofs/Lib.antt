@@ -1,2 +1,3 @@
+pub mod StatementLemmas
 pub mod SymbolLemmas
 pub mod WalkLemmas

@@ -1,7 +1,8 @@
 -- Walks over parts of a source, one after another, and over a list of them.
-use Rattle.std.proofs.Common.{◌≡◌, ℕ, ◌+◌, ◌<◌, ◌≤◌, List, [], ◌∷◌, ◌++◌, length, map, take, drop, get_or, Ok, Err, inl, inr, refl, sym, ap, subst, ◌∙◌, arith, append_assoc}
+use Rattle.std.proofs.Common.{◌≡◌, ℕ, ◌+◌, ◌<◌, ◌≤◌, List, [], ◌∷◌, ◌++◌, length, map, take, drop, get_or, Result, Ok, Err, inl, inr, refl, sym, ap, subst, ◌∙◌, arith, append_assoc}
 use Rattle.std.specs.Prelude.{⊤}
 use Rattle.std.specs.List.{flat_map}
+use Rattle.std.specs.Result.{IsErrAnd}
 use Rattle.std.proofs.lemmas.List.{append-nil, drop_more, flat_map_more, take-append-drop, take_more, take_all}
 use Rattle.std.proofs.lemmas.List.Folds.{flat_map-map}
 use Rattle.std.proofs.lemmas.Grind.{flat_map-append}
@@ -23,6 +24,19 @@ stops (first ∷ more) b fault h = h
 pub stops_later : (a b : List NameFault) (fault : NameFault) → a ≡ [] → IsReported b fault → IsReported (a ++ b) fault
 stops_later [] b fault none h = h
 stops_later (first ∷ more) b fault none h = cc
+
+-- a fault of a part that is reported of the whole
+pub reports : (faults : List NameFault) (ties before after : List ℕ) (fault : NameFault) (result : Result ⊤ NameFault)
+    → IsErrAnd result (λ own. own ≡ fault) → IsReported faults fault → Walks faults ties before result after
+reports faults ties before after fault (Ok done) same h = absurd same
+reports faults ties before after fault (Err own) same h = subst (IsReported faults) (sym same) h
+
+-- a walk over a part without a fault, and then over another
+pub walks_on : (a b : List NameFault) (first second before middle after : List ℕ) (result : Result ⊤ NameFault)
+    → Walks a first before (Ok tt) middle → Walks b second middle result after → Walks (a ++ b) (first ++ second) before result after
+walks_on a b first second before middle after (Ok done) walked walk =
+    (ap (λ faults. faults ++ b) walked.0 ∙ walk.0, walk.1 ∙ ap (λ ties. ties ++ second) walked.1 ∙ append_assoc before first second)
+walks_on a b first second before middle after (Err fault) walked walk = stops_later a b fault walked.0 walk
 
 -- ---- a list of parts
 module _ {A : Type 0} (faults : A → List NameFault) (ties : A → List ℕ) where

@@ -33,10 +33,10 @@ pub fn expression(symbols: &Symbols, ties: &mut Items<u32>, e: &Expr) -> Result<
 }
 
 /// Ties the names in each of some expressions.
-pub fn expressions(symbols: &Symbols, ties: &mut Items<u32>, es: &[Expr]) -> Result<(), NameFault>
+pub fn expressions(symbols: &Symbols, ties: &mut Items<u32>, es: &Items<Expr>) -> Result<(), NameFault>
     ensures { Walks (exprs_faults es.now (scope_of symbols.now)) (all_ties (map expr_ties es.now) (scope_of symbols.now)) ties.old result ties.new }
 {
-    for e in es {
+    for e in es.as_slice() {
         expression(symbols, ties, e)?;
     }
     Ok(())

@@ -18,12 +18,12 @@ pub fn statements(
     symbols: &Symbols,
     loops: &mut Items<u32>,
     ties: &mut Items<u32>,
-    statements: &[Statement],
+    statements: &Items<Statement>,
 ) -> Result<(), NameFault>
     ensures walk { Walks (all_faults (map statement_faults statements.now) (scope_of symbols.now) loops.old) (all_ties (map statement_ties statements.now) (scope_of symbols.now)) ties.old result ties.new }
     ensures loops { OnOk result (loops.new ≡ loops.old) }
 {
-    for s in statements {
+    for s in statements.as_slice() {
         statement(symbols, loops, ties, s)?;
     }
     Ok(())
@@ -46,11 +46,11 @@ fn statement(
             value,
             ..
         } => {
-            place(symbols, loops.as_slice(), ties, target)?;
+            place(symbols, loops, ties, target)?;
             expression(symbols, ties, value)
         }
         Statement::Print { value, .. } => expression(symbols, ties, value),
-        Statement::Read { place: target, .. } => place(symbols, loops.as_slice(), ties, target),
+        Statement::Read { place: target, .. } => place(symbols, loops, ties, target),
         Statement::If {
             condition: test,
             first,
@@ -58,8 +58,8 @@ fn statement(
             ..
         } => {
             condition(symbols, ties, test)?;
-            statements(symbols, loops, ties, first.as_slice())?;
-            statements(symbols, loops, ties, second.as_slice())
+            statements(symbols, loops, ties, first)?;
+            statements(symbols, loops, ties, second)
         }
         Statement::For {
             name,
@@ -69,7 +69,7 @@ fn statement(
             ..
         } => {
             for_head(symbols, loops, ties, name, first, last)?;
-            statements(symbols, loops, ties, body.as_slice())?;
+            statements(symbols, loops, ties, body)?;
             loops.pop();
             Ok(())
         }
@@ -79,13 +79,13 @@ fn statement(
             ..
         } => {
             condition(symbols, ties, test)?;
-            statements(symbols, loops, ties, body.as_slice())
+            statements(symbols, loops, ties, body)
         }
         Statement::Call {
             name, arguments, ..
         } => {
             ties.push(procedure(symbols, name, arguments.len())?)?;
-            expressions(symbols, ties, arguments.as_slice())
+            expressions(symbols, ties, arguments)
         }
     }
 }
@@ -93,7 +93,7 @@ fn statement(
 /// Ties the name of a place that is set, and the names in its index.
 fn place(
     symbols: &Symbols,
-    loops: &[u32],
+    loops: &Items<u32>,
     ties: &mut Items<u32>,
     place: &Place,
 ) -> Result<(), NameFault>
@@ -125,7 +125,7 @@ fn for_head(
         (name_ties name.now scope ++ (expr_ties first.now scope ++ expr_ties last.now scope)) ties.old result ties.new }
     ensures loops { OnOk result (loops.new ≡ with_loop (lookup name.now.bytes (scope_of symbols.now)) loops.old) }
 {
-    let number = assigned(symbols, name, loops.as_slice())?;
+    let number = assigned(symbols, name, loops)?;
     ties.push(number)?;
     expression(symbols, ties, first)?;
     expression(symbols, ties, last)?;

@@ -8,6 +8,7 @@ ghost use Rattle.name_check.specs.Visible.{scope_of};
 use crate::fault::NameFault;
 use crate::symbols::{Symbol, Symbols};
 use source_tree::Name;
+use sqlite_items::Items;
 
 /// The number of a variable, parameter or local whose integer is used.
 pub fn variable(symbols: &Symbols, name: &Name) -> Result<u32, NameFault>
@@ -49,13 +50,13 @@ pub fn procedure(symbols: &Symbols, name: &Name, arguments: usize) -> Result<u32
 }
 
 /// The number of a variable, parameter or local that is set, inside `for`s over the variables `loops`.
-pub fn assigned(symbols: &Symbols, name: &Name, loops: &[u32]) -> Result<u32, NameFault>
+pub fn assigned(symbols: &Symbols, name: &Name, loops: &Items<u32>) -> Result<u32, NameFault>
     ensures tie { IsTie (as_assigned (lookup name.now.bytes (scope_of symbols.now)) name.now.line loops.now) (name_ties name.now (scope_of symbols.now)) result }
     ensures within { IfOk result (λ number. with_loop (lookup name.now.bytes (scope_of symbols.now)) loops.now ≡ loops.now ++ number ∷ []) }
 {
     match symbols.get(name.bytes.as_slice()) {
         Some(Symbol::Variable { number, .. }) => {
-            if is_among(*number, loops) {
+            if is_among(*number, loops.as_slice()) {
                 Err(NameFault::LoopAssigned(name.line))
             } else {
                 Ok(*number)

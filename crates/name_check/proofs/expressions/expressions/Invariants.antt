@@ -5,4 +5,4 @@ use Rattle.name_check.proofs.WalkLemmas.{HasWalked}
 use Rattle.name_check.proofs.expressions.expressions.Given as goal
 
 abbrev pub invariant-loop-e : goal.invariant-loop-e
-invariant-loop-e l = HasWalked (λ e. expr_faults e (scope_of l.symbols)) (λ e. expr_ties e (scope_of l.symbols)) l.es l.e-index l.initial.ties l.ties
+invariant-loop-e l = HasWalked (λ e. expr_faults e (scope_of l.symbols)) (λ e. expr_ties e (scope_of l.symbols)) l.e-items l.e-index l.initial.ties l.ties
