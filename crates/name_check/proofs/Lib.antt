@@ -1,3 +1,5 @@
+pub mod RestLemmas
 pub mod StatementLemmas
 pub mod SymbolLemmas
+pub mod VariableLemmas
 pub mod WalkLemmas

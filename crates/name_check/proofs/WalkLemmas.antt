@@ -10,7 +10,7 @@ use Rattle.source_tree.specs.Scope.{Scope}
 use Rattle.source_tree.specs.declared.expression.Expr.{Expr}
 use Rattle.name_check.specs.declared.fault.NameFault.{NameFault}
 use Rattle.name_check.specs.Names.{Faults, Loops, all_faults, expr_faults, exprs_faults}
-use Rattle.name_check.specs.Reported.{IsReported, Walks}
+use Rattle.name_check.specs.Reported.{IsFirst, IsReported, Walks}
 use Rattle.name_check.specs.Ties.{Ties, all_ties}
 
 -- ---- one part after another
@@ -30,6 +30,12 @@ pub reports : (faults : List NameFault) (ties before after : List ℕ) (fault : 
     → IsErrAnd result (λ own. own ≡ fault) → IsReported faults fault → Walks faults ties before result after
 reports faults ties before after fault (Ok done) same h = absurd same
 reports faults ties before after fault (Err own) same h = subst (IsReported faults) (sym same) h
+
+-- the same of what has no ties
+pub reported : {A : Type 0} (faults : List NameFault) (fault : NameFault) (result : Result A NameFault)
+    → IsErrAnd result (λ own. own ≡ fault) → IsReported faults fault → IsFirst faults result
+reported faults fault (Ok value) same h = absurd same
+reported faults fault (Err own) same h = subst (IsReported faults) (sym same) h
 
 -- a walk over a part without a fault, and then over another
 pub walks_on : (a b : List NameFault) (first second before middle after : List ℕ) (result : Result ⊤ NameFault)
@@ -66,7 +72,7 @@ module _ {A : Type 0} (faults : A → List NameFault) (ties : A → List ℕ) wh
     walked_stops fault h =
         let cut = ap (λ ps. take i parts ++ ps) (drop_more parts i part within ∙ ap (λ p. p ∷ drop (i + 1) parts) (sym is)) in
         let whole : flat_map faults (take i parts) ++ (faults part ++ flat_map faults (drop (i + 1) parts)) ≡ flat_map faults parts =
-            sym (flat_map-append faults (take i parts) (part ∷ drop (i + 1) parts)) ∙ ap (flat_map faults) (sym cut ∙ take-append-drop i parts) in
+        sym (flat_map-append faults (take i parts) (part ∷ drop (i + 1) parts)) ∙ ap (flat_map faults) (sym cut ∙ take-append-drop i parts) in
         subst (λ all. IsReported all fault) whole
         (stops_later (flat_map faults (take i parts)) _ fault walked.none (stops (faults part) (flat_map faults (drop (i + 1) parts)) fault h))
 

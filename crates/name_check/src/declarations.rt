@@ -78,7 +78,7 @@ pub fn declaration(
                 return Err(NameFault::TooMany(name.line));
             }
             procedure_inside(alloc, symbols, ties, params, locals, body, number)?;
-            let params = ranges(alloc, params)?;
+            let params = Items::from_vec(ranges(alloc, params.as_slice())?);
             symbols.declare_outer(
                 alloc,
                 name.bytes.as_slice(),
@@ -103,7 +103,7 @@ fn procedure_inside(
     requires numbers { number + (1 + length params.now + length locals.now) < 4294967296 }
     ensures walk { let scope = symbols.old.0 in
         Walks (params_faults (number + 1) params.now scope ++ (locals_faults (number + 1 + length params.now) locals.now (with_params (number + 1) params.now scope) ++
-            all_faults (map statement_faults body.now) (inside number params.now locals.now scope) []))
+        all_faults (map statement_faults body.now) (inside number params.now locals.now scope) []))
         (all_ties (map statement_ties body.now) (inside number params.now locals.now scope)) ties.old result ties.new }
     ensures left { OnOk result (symbols.new ≡ (symbols.old.0, [])) }
 {
@@ -200,15 +200,10 @@ fn range_in_order(range: Range, line: u32) -> Result<(), NameFault>
 }
 
 /// The ranges of parameters.
-fn ranges(alloc: Global, params: &Items<Param>) -> Result<Items<Range>, AllocError>
-    ensures { IfOk result (λ found. found ≡ map (λ p. p.range) params.now) }
+fn ranges(alloc: Global, params: &[Param]) -> Result<Vec<Range>, AllocError>
+    ensures { IfOk result (λ found. found.items ≡ map (λ p. p.range) params.now) }
 {
-    let found = params
-        .as_slice()
-        .iter()
-        .map(|p| p.range)
-        .collect(alloc)?;
-    Ok(Items::from_vec(found))
+    params.iter().map(|p| p.range).collect(alloc)
 }
 
 /// How many names a declaration declares.

@@ -33,7 +33,11 @@ pub fn expression(symbols: &Symbols, ties: &mut Items<u32>, e: &Expr) -> Result<
 }
 
 /// Ties the names in each of some expressions.
-pub fn expressions(symbols: &Symbols, ties: &mut Items<u32>, es: &Items<Expr>) -> Result<(), NameFault>
+pub fn expressions(
+    symbols: &Symbols,
+    ties: &mut Items<u32>,
+    es: &Items<Expr>,
+) -> Result<(), NameFault>
     ensures { Walks (exprs_faults es.now (scope_of symbols.now)) (all_ties (map expr_ties es.now) (scope_of symbols.now)) ties.old result ties.new }
 {
     for e in es.as_slice() {
@@ -43,7 +47,11 @@ pub fn expressions(symbols: &Symbols, ties: &mut Items<u32>, es: &Items<Expr>) -
 }
 
 /// Ties the names in the two sides of a condition.
-pub fn condition(symbols: &Symbols, ties: &mut Items<u32>, condition: &Condition) -> Result<(), NameFault>
+pub fn condition(
+    symbols: &Symbols,
+    ties: &mut Items<u32>,
+    condition: &Condition,
+) -> Result<(), NameFault>
     ensures { Walks (condition_faults condition.now (scope_of symbols.now)) (condition_ties condition.now (scope_of symbols.now)) ties.old result ties.new }
 {
     expression(symbols, ties, &condition.left)?;

@@ -82,7 +82,9 @@ fn statement(
             statements(symbols, loops, ties, body)
         }
         Statement::Call {
-            name, arguments, ..
+            name,
+            arguments,
+            ..
         } => {
             ties.push(procedure(symbols, name, arguments.len())?)?;
             expressions(symbols, ties, arguments)

@@ -12,14 +12,20 @@ use std::marker::Model;
 #[derive(Debug, Drop)]
 pub enum Symbol {
     /// A variable, parameter or local.
-    Variable { number: u32, range: Range },
+    Variable {
+        number: u32,
+        range: Range,
+    },
     Array {
         number: u32,
         length: i128,
         range: Range,
     },
     /// A procedure, with the ranges of its parameters.
-    Procedure { number: u32, params: Items<Range> },
+    Procedure {
+        number: u32,
+        params: Items<Range>,
+    },
 }
 
 /// The names that are visible at a place of a source: those declared outside procedures, and the parameters and locals
@@ -60,7 +66,12 @@ impl Symbols {
     }
 
     /// Declares a name outside procedures.
-    pub fn declare_outer(&mut self, alloc: Global, name: &[u8], symbol: Symbol) -> Result<(), AllocError>
+    pub fn declare_outer(
+        &mut self,
+        alloc: Global,
+        name: &[u8],
+        symbol: Symbol,
+    ) -> Result<(), AllocError>
         requires { lookup name.now self.old.0 ≡ None }
         ensures { OnOk result (self.new ≡ with_outer self.old name.now (declared_of symbol)) }
     {
@@ -68,7 +79,12 @@ impl Symbols {
     }
 
     /// Declares a parameter or a local.
-    pub fn declare_inner(&mut self, alloc: Global, name: &[u8], symbol: Symbol) -> Result<(), AllocError>
+    pub fn declare_inner(
+        &mut self,
+        alloc: Global,
+        name: &[u8],
+        symbol: Symbol,
+    ) -> Result<(), AllocError>
         requires { lookup name.now self.old.1 ≡ None }
         ensures { OnOk result (self.new ≡ with_inner self.old name.now (declared_of symbol)) }
     {

@@ -27,6 +27,7 @@ pub returns : goal.returns
 returns c =
     let scope = scope_of c.args.symbols.now in
     let es = c.as_slice-e-items.result.now in
-    let all = walked_all (λ e. expr_faults e scope) (λ e. expr_ties e scope) es c.loop-e.e-index c.args.ties.now c.loop-e.ties c.loop-e-test.false c.loop-e.invariant in
-    (ap (λ es. exprs_faults es scope) (sym c.as_slice-e-items.ensures) ∙ exprs_faults-flat_map es scope ∙ all.0,
-    all.1 ∙ ap (λ ties. c.args.ties.now ++ ties) (sym (all_ties-flat_map expr_ties es scope) ∙ ap (λ es. all_ties (map expr_ties es) scope) c.as_slice-e-items.ensures))
+    let all = walked_all (λ e. expr_faults e scope) (λ e. expr_ties e scope) es c.loop-e.e-index c.args.ties.now c.loop-e.ties c.loop-e-test.false c.loop-e.invariant in (
+      ap (λ es. exprs_faults es scope) (sym c.as_slice-e-items.ensures) ∙ exprs_faults-flat_map es scope ∙ all.0,
+      all.1 ∙ ap (λ ties. c.args.ties.now ++ ties) (sym (all_ties-flat_map expr_ties es scope) ∙ ap (λ es. all_ties (map expr_ties es) scope) c.as_slice-e-items.ensures),
+    )

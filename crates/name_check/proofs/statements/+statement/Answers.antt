@@ -60,8 +60,8 @@ statement-returns-in_ok-statements-in-If-clause-walk t c =
     let second = map statement_faults i.second in
     let second_ties = all_ties (map statement_ties i.second) scope in
     let second_walk =
-        subst (λ l. Walks (all_faults second scope l) second_ties c.statements.new.ties c.statements-in-If.result c.statements-in-If.new.ties) c.in_ok-statements-in-If.ensures.loops
-        c.statements-in-If.ensures.walk in
+    subst (λ l. Walks (all_faults second scope l) second_ties c.statements.new.ties c.statements-in-If.result c.statements-in-If.new.ties) c.in_ok-statements-in-If.ensures.loops
+    c.statements-in-If.ensures.walk in
     node_walks c.args.s.now _ _ scope loops c.args.ties.now c.statements-in-If.new.ties c.statements-in-If.result (if_node c.args.s.now i.test i.first i.second i.line i.is)
     (walks_on (condition_faults i.test scope) (all_faults first scope loops ++ all_faults second scope loops) (condition_ties i.test scope)
     (all_ties (map statement_ties i.first) scope ++ second_ties) c.args.ties.now c.condition.new.ties c.statements-in-If.new.ties c.statements-in-If.result c.in_ok-condition-in-If.ensures
@@ -110,12 +110,13 @@ statement-returns-in_ok-statements-in-For-clause-walk t c =
     let done = c.in_ok-statements-in-For.ensures.walk in
     let none = ap body (sym c.in_ok-for_head-in-For.ensures.loops) ∙ done.0 in
     let walk =
-        walks_on (a ++ (expr_faults f.first scope ++ expr_faults f.last scope)) (body (with_loop o c.args.loops.now))
-        (name_ties f.name scope ++ (expr_ties f.first scope ++ expr_ties f.last scope)) ties c.args.ties.now c.for_head.new.ties c.statements-in-For.new.ties (Ok tt)
-        c.in_ok-for_head-in-For.ensures.walk (none, done.1) in
-    node_walks c.args.s.now _ _ scope c.args.loops.now c.args.ties.now c.statements-in-For.new.ties (Ok tt) (for_node c.args.s.now f.name f.first f.last f.body f.line f.is)
-    (sym (heads a (expr_faults f.first scope) (expr_faults f.last scope) (body (with_loop o c.args.loops.now))) ∙ walk.0,
-    walk.1 ∙ ap (λ l. c.args.ties.now ++ l) (heads (name_ties f.name scope) (expr_ties f.first scope) (expr_ties f.last scope) ties))
+    walks_on (a ++ (expr_faults f.first scope ++ expr_faults f.last scope)) (body (with_loop o c.args.loops.now))
+    (name_ties f.name scope ++ (expr_ties f.first scope ++ expr_ties f.last scope)) ties c.args.ties.now c.for_head.new.ties c.statements-in-For.new.ties (Ok tt)
+    c.in_ok-for_head-in-For.ensures.walk (none, done.1) in
+    node_walks c.args.s.now _ _ scope c.args.loops.now c.args.ties.now c.statements-in-For.new.ties (Ok tt) (for_node c.args.s.now f.name f.first f.last f.body f.line f.is) (
+      sym (heads a (expr_faults f.first scope) (expr_faults f.last scope) (body (with_loop o c.args.loops.now))) ∙ walk.0,
+      walk.1 ∙ ap (λ l. c.args.ties.now ++ l) (heads (name_ties f.name scope) (expr_ties f.first scope) (expr_ties f.last scope) ties),
+    )
 
 pub statement-returns-in_err-condition-in-While-clause-walk :
     goal.statement-returns-in_err-condition-in-While-clause-walk
@@ -185,6 +186,7 @@ statements-returns-clause-walk t c =
     let loops = c.args.loops.now in
     let xs = c.as_slice-s-items.result.now in
     let all =
-        walked_all (λ s. statement_faults s scope loops) (λ s. statement_ties s scope) xs c.loop-s.s-index c.args.ties.now c.loop-s.ties c.loop-s-test.false c.loop-s.invariant.walked in
-    (ap (λ s. all_faults (map statement_faults s) scope loops) (sym c.as_slice-s-items.ensures) ∙ all_faults-flat_map statement_faults xs scope loops ∙ all.0,
-    all.1 ∙ ap (λ ties. c.args.ties.now ++ ties) (sym (all_ties-flat_map statement_ties xs scope) ∙ ap (λ s. all_ties (map statement_ties s) scope) c.as_slice-s-items.ensures))
+    walked_all (λ s. statement_faults s scope loops) (λ s. statement_ties s scope) xs c.loop-s.s-index c.args.ties.now c.loop-s.ties c.loop-s-test.false c.loop-s.invariant.walked in (
+      ap (λ s. all_faults (map statement_faults s) scope loops) (sym c.as_slice-s-items.ensures) ∙ all_faults-flat_map statement_faults xs scope loops ∙ all.0,
+      all.1 ∙ ap (λ ties. c.args.ties.now ++ ties) (sym (all_ties-flat_map statement_ties xs scope) ∙ ap (λ s. all_ties (map statement_ties s) scope) c.as_slice-s-items.ensures),
+    )
