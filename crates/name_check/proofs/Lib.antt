@@ -1,5 +1,11 @@
-pub mod RestLemmas
-pub mod StatementLemmas
-pub mod SymbolLemmas
-pub mod VariableLemmas
-pub mod WalkLemmas
+mod FoldEquations
+mod RestLemmas
+mod RowsCalls
+mod RowsDeclarations
+mod RowsLoops
+mod RowsUses
+mod RowsVisible
+mod StatementLemmas
+mod SymbolLemmas
+mod VariableLemmas
+mod WalkLemmas

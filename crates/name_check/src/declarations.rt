@@ -1,10 +1,11 @@
-ghost use Rattle.std.specs.Prelude.{◌≡◌, ◌+◌, ◌<◌, ◌++◌, [], IfOk, None, OnOk, length, map};
+ghost use Rattle.std.specs.Prelude.{◌≡◌, ◌+◌, ◌<◌, ◌++◌, [], IfErr, IfOk, None, OnOk, length, map, nat_eq};
 ghost use Rattle.plain_text.specs.Lookup.{lookup};
-ghost use Rattle.source_tree.specs.Scope.{inside, names_in, variable, with_declared, with_locals, with_params};
-ghost use Rattle.name_check.specs.Names.{all_faults, as_new, declaration_faults, locals_faults, params_faults, procedures_in, range_faults, statement_faults};
+ghost use Rattle.source_tree.specs.Scope.{inside, names_in, procedure, variable, with_declared, with_locals, with_params};
+ghost use Rattle.name_check.specs.declared.fault.NameFault.TheVariants.{NoMemory, TooMany};
+ghost use Rattle.name_check.specs.Names.{all_faults, as_new, declaration_faults, locals_faults, most_procedures, params_faults, procedures_in, range_faults, statement_faults, where_broken};
 ghost use Rattle.name_check.specs.Reported.{IsFirst, Walks};
 ghost use Rattle.name_check.specs.Ties.{all_ties, declaration_ties, statement_ties};
-ghost use Rattle.name_check.specs.Visible.{scope_of, with_inner};
+ghost use Rattle.name_check.specs.Visible.{scope_of, with_inner, with_outer};
 
 use crate::fault::NameFault;
 use crate::statements::statements;
@@ -73,20 +74,45 @@ pub fn declaration(
             body,
             ..
         } => {
-            new_name(symbols, name)?;
-            if procedures == MOST_PROCEDURES {
-                return Err(NameFault::TooMany(name.line));
-            }
+            procedure_heading(symbols, name, procedures)?;
             procedure_inside(alloc, symbols, ties, params, locals, body, number)?;
-            let params = Items::from_vec(ranges(alloc, params.as_slice())?);
-            symbols.declare_outer(
-                alloc,
-                name.bytes.as_slice(),
-                Symbol::Procedure { number, params },
-            )?;
-            Ok(())
+            declare_procedure(alloc, symbols, name, params, number)
         }
     }
+}
+
+/// Another procedure may be declared by a name, after so many procedures.
+fn procedure_heading(symbols: &Symbols, heading: &Name, procedures: u32) -> Result<(), NameFault>
+    ensures first { IsFirst (as_new heading.now (scope_of symbols.now) ++ where_broken (nat_eq procedures most_procedures) (TooMany heading.now.line)) result }
+    ensures new { OnOk result (lookup heading.now.bytes (scope_of symbols.now) ≡ None) }
+{
+    new_name(symbols, heading)?;
+    if procedures == MOST_PROCEDURES {
+        Err(NameFault::TooMany(heading.line))
+    } else {
+        Ok(())
+    }
+}
+
+/// Declares a procedure.
+fn declare_procedure(
+    alloc: Global,
+    symbols: &mut Symbols,
+    name: &Name,
+    params: &Items<Param>,
+    number: u32,
+) -> Result<(), NameFault>
+    requires { lookup name.now.bytes symbols.old.0 ≡ None }
+    ensures declared { OnOk result (symbols.new ≡ with_outer symbols.old name.now.bytes (procedure number (map (λ p. p.range) params.now))) }
+    ensures err { IfErr result (λ fault. fault ≡ NoMemory) }
+{
+    let params = Items::from_vec(ranges(alloc, params.as_slice())?);
+    symbols.declare_outer(
+        alloc,
+        name.bytes.as_slice(),
+        Symbol::Procedure { number, params },
+    )?;
+    Ok(())
 }
 
 /// The parameters, locals and statements of the procedure of a number, which is left again.

@@ -1,7 +1,7 @@
 //! The rules of names: what each name is declared as, where it is visible, and what it may be used for.
 //!
 //! In comes the tree of a source; out goes the tree with each use of a name tied to its declaration, or the first rule
-//! that the source breaks, with its line. The stages after it know each declared name by its number.
+//! that the source breaks, with its line.
 #![tactic(auto)]
 
 mod checked;

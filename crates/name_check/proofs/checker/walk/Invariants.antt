@@ -4,6 +4,6 @@ use Rattle.name_check.proofs.checker.walk.Given as goal
 
 abbrev pub invariant-loop-d : goal.invariant-loop-d
 invariant-loop-d l = record {
-  passed : HasPassed l.program l.d-index l.number l.procedures l.symbols.0 l.initial.ties l.ties;
+  passed : HasPassed l.declarations l.statements l.d-index l.number l.procedures l.symbols.0 l.initial.ties l.ties;
   outside : l.symbols.1 ≡ [];
 }
