@@ -5,7 +5,7 @@ use std::test::Fail;
 /// Names of each kind, in two procedures and outside, each used in each way that it may be.
 const JOB: &str = "\
 var i: 0..9;
-proc set(to: 0..9) var old: 0..9; do old := i; i := to; end
+proc set(new: 0..9) var old: 0..9; do old := i; i := new; end
 array a[3]: 0..9;
 proc fill(k: 0..9) do for k := 0 to 2 do a[k] := k; end set(a[0]); end
 for i := 0 to a[1] do read a[i]; fill(-i); end

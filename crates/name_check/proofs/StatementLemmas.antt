@@ -1,7 +1,6 @@
 -- Faults and ties of a statement, by those of its parts.
-use Rattle.std.proofs.Common.{◌≡◌, ℕ, List, [], ◌∷◌, ◌++◌, map, Result, ap, sym, subst, ◌∙◌, append_assoc}
+use Rattle.std.proofs.Common.{◌≡◌, ℕ, List, ◌++◌, map, Result, ap, sym, subst, ◌∙◌, append_assoc}
 use Rattle.std.specs.Prelude.{ℤ, ⊤}
-use Rattle.plain_text.specs.Lookup.{lookup}
 use Rattle.source_tree.specs.Scope.{Scope}
 use Rattle.source_tree.specs.declared.name.Name.{Name}
 use Rattle.source_tree.specs.declared.expression.Condition.{Condition}

@@ -1,7 +1,6 @@
 -- The rules of names: every break of one, in text order.
-use Rattle.std.specs.Prelude.{ℕ, ◌+◌, ℤ, pos, List, [], ◌∷◌, ◌++◌, map, length, Bool, true, false, not, ◌||◌, nat_eq, int_lt, Option, Some, None, if◌then◌else◌}
+use Rattle.std.specs.Prelude.{ℕ, ◌+◌, pos, List, [], ◌∷◌, ◌++◌, map, length, Bool, true, false, not, ◌||◌, nat_eq, int_lt, Option, Some, None, if◌then◌else◌}
 use Rattle.std.specs.Ordering.{int_eq}
-use Rattle.std.specs.Str.{bytes_eq}
 use Rattle.plain_text.specs.Lookup.{lookup}
 use Rattle.source_tree.specs.Scope.{Scope, Declared, variable, array, procedure, with_params, inside, with_declared, names_in}
 use Rattle.source_tree.specs.declared.name.Name.{Name as SourceName}

@@ -1,6 +1,6 @@
-use Rattle.std.proofs.Common.{◌≡◌, ◌+◌, [], map, refl, ap, sym, subst, ◌∙◌, arith}
-use Rattle.source_tree.specs.Scope.{Scope, names_in, with_declared}
-use Rattle.name_check.specs.Names.{Loops, all_faults, declaration_faults, statement_faults}
+use Rattle.std.proofs.Common.{◌+◌, [], map, refl, ap, sym, subst, arith}
+use Rattle.source_tree.specs.Scope.{Scope, with_declared}
+use Rattle.name_check.specs.Names.{Loops, all_faults, statement_faults}
 use Rattle.name_check.specs.Reported.{Walks}
 use Rattle.name_check.specs.Ties.{all_ties, statement_ties}
 use Rattle.name_check.specs.Visible.{scope_of}

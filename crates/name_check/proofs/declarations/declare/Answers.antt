@@ -1,4 +1,4 @@
-use Rattle.std.proofs.Common.{◌≡◌, ap, ◌∙◌}
+use Rattle.std.proofs.Common.{ap, ◌∙◌}
 use Rattle.plain_text.specs.Lookup.{lookup}
 use Rattle.name_check.proofs.SymbolLemmas.{lookup-second-none}
 use Rattle.name_check.proofs.declarations.declare.Goals as goal

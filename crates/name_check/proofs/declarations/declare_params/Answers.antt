@@ -1,4 +1,4 @@
-use Rattle.std.proofs.Common.{◌≡◌, length, ap, sym, subst, ◌∙◌, arith}
+use Rattle.std.proofs.Common.{length, ap, sym, subst, ◌∙◌, arith}
 use Rattle.source_tree.specs.Scope.{with_params}
 use Rattle.name_check.specs.Names.{params_faults}
 use Rattle.name_check.specs.Reported.{IsReported}

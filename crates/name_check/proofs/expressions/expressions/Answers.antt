@@ -1,4 +1,4 @@
-use Rattle.std.proofs.Common.{◌≡◌, ◌++◌, map, ap, sym, subst, ◌∙◌}
+use Rattle.std.proofs.Common.{◌++◌, map, ap, sym, subst, ◌∙◌}
 use Rattle.name_check.specs.Names.{expr_faults, exprs_faults}
 use Rattle.name_check.specs.Reported.{IsReported}
 use Rattle.name_check.specs.Ties.{all_ties, expr_ties}

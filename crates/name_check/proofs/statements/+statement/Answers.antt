@@ -1,4 +1,4 @@
-use Rattle.std.proofs.Common.{◌≡◌, List, ◌++◌, length, map, Ok, refl, ap, sym, subst, ◌∙◌}
+use Rattle.std.proofs.Common.{List, ◌++◌, length, map, Ok, refl, ap, sym, subst, ◌∙◌}
 use Rattle.name_check.specs.declared.fault.NameFault.{NameFault}
 use Rattle.plain_text.specs.Lookup.{lookup}
 use Rattle.name_check.specs.Names.{Loops, all_faults, as_assigned, as_procedure, condition_faults, expr_faults, exprs_faults, place_faults, statement_faults, with_loop}

@@ -1,4 +1,4 @@
-use Rattle.std.proofs.Common.{◌≡◌, ◌++◌, None, refl, sym, ap, ◌∙◌}
+use Rattle.std.proofs.Common.{◌≡◌, None, refl, sym, ap, ◌∙◌}
 use Rattle.plain_text.specs.Lookup.{lookup}
 use Rattle.name_check.specs.Visible.{scope_in, scope_of}
 use Rattle.name_check.proofs.SymbolLemmas.{lookup-append-some, lookup-append-none, found, answered}
