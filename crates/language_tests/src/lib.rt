@@ -1,8 +1,10 @@
-//! Tests of the language floor: worked rows of `source_lexer`, `source_tree` and `source_parser`.
+//! Tests of the language floor: worked rows of `source_lexer`, `source_tree`, `source_parser` and `name_check`.
 //!
 //! A crate with tests is proved twice, so those of the language stand here, above it. Nothing comes in or goes out.
 #![tactic(auto)]
 
+#[cfg(test)]
+mod names;
 #[cfg(test)]
 mod places;
 #[cfg(test)]

@@ -1,3 +1,7 @@
+ghost use Rattle.std.specs.List.{All};
+ghost use Rattle.std.specs.Prelude.{◌<◌, ◌≤ℤ◌, IfOk, pos};
+ghost use Rattle.source_tree.specs.Numbers.{program_names, program_numbers};
+
 use crate::places::PLACES;
 use source_lexer::tokens;
 use source_parser::{ParseFault, parse};
@@ -25,7 +29,10 @@ fn spread(alloc: Global, text: &str) -> Result<String, Fail> {
 }
 
 /// What the tokens of a text spell. No text here is cut by the limit.
-pub fn parsed(alloc: Global, text: &str) -> Result<Result<Program, ParseFault>, Fail> {
+pub fn parsed(alloc: Global, text: &str) -> Result<Result<Program, ParseFault>, Fail>
+    ensures few { IfOk result (λ parsed. IfOk parsed (λ program. program_names program < 4294967295)) }
+    ensures natural { IfOk result (λ parsed. IfOk parsed (λ program. All (λ n. pos 0 ≤ℤ n) (program_numbers program))) }
+{
     let text = &text.as_bytes()[..text.len().min(100_000)];
     let tokens = tokens(alloc, text)?;
     Ok(parse(alloc, text, tokens.as_slice()))

@@ -1,0 +1,11 @@
+mod FoldEquations
+mod RestLemmas
+mod RowsCalls
+mod RowsDeclarations
+mod RowsLoops
+mod RowsUses
+mod RowsVisible
+mod StatementLemmas
+mod SymbolLemmas
+mod VariableLemmas
+mod WalkLemmas
