@@ -10,3 +10,4 @@ pub use Rattle.micro_plan.specs.Told
 pub mod Trace
 pub mod Decoded
 pub mod Runs
+pub mod Joined

@@ -1,5 +1,5 @@
 -- What a run did, in order, and what is read off it.
-use Rattle.std.specs.Prelude.{ℕ, ◌+◌, ◌==◌, ℤ, Bool, true, false, ◌||◌, List, [], ◌∷◌, Option, if◌then◌else◌}
+use Rattle.std.specs.Prelude.{◌≡◌, ℕ, ◌+◌, ◌==◌, ℤ, Bool, true, false, ◌||◌, List, [], ◌∷◌, Option, if◌then◌else◌}
 use Rattle.moduli_sets.specs.declared.kind.Kind.{Kind}
 use Rattle.moduli_sets.specs.Set.{ModuliSet}
 use Rattle.moduli_sets.specs.Vector.{vector_of}
@@ -8,6 +8,7 @@ use Rattle.channel_alu.specs.declared.operation.MicroOp.{MicroOp}
 use Rattle.channel_alu.specs.declared.operation.MicroOp.TheVariants.{Show}
 use Rattle.redundant_decoder.specs.Nearest.{different_places}
 use Rattle.machine_table.specs.Control.{Control, End, halts, traps}
+use Rattle.machine_table.specs.Integers.{IntegerRun, IntegerEnding, halt as halt_of_integers, trap as trap_of_integers, spent as spent_of_integers, ending_of as integer_ending}
 
 -- An operation was issued; a place was shown, with its column and the integer that control went on with; an integer was
 -- printed. In the end control stands at an instruction, or the program ended, or no integer in range explains a column.
@@ -85,3 +86,13 @@ where_went_on (printed x more) f other = where_went_on more f other
 where_went_on (went_on control) f other = f control
 where_went_on (ended end) f other = other
 where_went_on (damaged place column) f other = other
+
+-- a run ends as one of the integer machine does
+abbrev pub ends_as : Trace → IntegerRun → Type 0
+ends_as (did op more) run = ends_as more run
+ends_as (showed place column x more) run = ends_as more run
+ends_as (printed x more) run = ends_as more run
+ends_as (went_on control) run = integer_ending run ≡ spent_of_integers
+ends_as (ended halts) run = integer_ending run ≡ halt_of_integers
+ends_as (ended (traps kind line)) run = integer_ending run ≡ trap_of_integers kind line
+ends_as (damaged place column) run = ⊥

@@ -4,3 +4,7 @@
 //! `micro_plan`, on the lanes of `lane_bank` and on the nearest integers of `redundant_decoder`; the law on faults and the
 //! machine stand on it beside each other.
 #![tactic(auto)]
+
+mod laws;
+
+pub use laws::{nearest_is_nearest, plain_is_integer, runs_in_parts};

@@ -1,0 +1,4 @@
+pub mod Joining
+pub mod NearestLemmas
+pub mod PlainLemmas
+pub mod Rows
