@@ -176,21 +176,22 @@ module _ {K : Type 0} (puts : K → List ℕ → K → Type 0) (state : K → Si
 module _ {S K : Type 0} (fetches : S → List ℕ → ℕ → Fetch → List ℕ → S → Type 0) (shelf_state : S → ShelfState) (puts : K → List ℕ → K → Type 0) (sink_state : K → SinkState)
     (words : List (List ℕ)) (shelf : S) (sink : K) (result : Status) (shelf_after : S) (sink_after : K) where
   pub completes : IsAnswered fetches shelf_state puts sink_state words shelf sink result shelf_after sink_after → IsComplete shelf_state puts sink_state words shelf sink result shelf_after sink_after
-  completes h held told no_fetch_fault no_put_fault =
-      let everywhere = given_by words held (files_of_words words) in
-      let answers : Type 0 = (answer : Answer) × IsAnswer words everywhere answer × (result ≡ answer_status answer) × WroteAll puts sink_state sink (answer_lines words answer) sink_after in
-      let over : (answer : Answer) → IsAnswer words h.given answer → IsAnswer words everywhere answer = λ answer is.
-      elim (h.explained held told) [
-        | inl whole ↦ subst (λ g. IsAnswer words g answer) whole is
-        | inr others ↦ elim others [
-          | inl memory ↦ without_memory (job_of_words words) h.given everywhere answer memory is
-          | inr fault ↦ absurd (no_fetch_fault fault.0)
-        ]
-      ] in
-      elim h.ends [
-        | inl (answer, is, put) ↦ elim put [
-          | inl (same, wrote) ↦ inr (answer, over answer is, same, wrote)
-          | inr (broke_is, (n, broke)) ↦ absurd (no_put_fault broke.rose)
-        ]
-        | inr without ↦ inl without
-      ]
+  completes h = record {
+    whole = λ held told no_fetch_fault no_put_fault.
+        let everywhere = given_by words held (files_of_words words) in
+        let over : (answer : Answer) → IsAnswer words h.given answer → IsAnswer words everywhere answer = λ answer is.
+        elim (h.explained held told) [
+          | inl whole ↦ subst (λ g. IsAnswer words g answer) whole is
+          | inr others ↦ elim others [
+            | inl memory ↦ without_memory (job_of_words words) h.given everywhere answer memory is
+            | inr fault ↦ absurd (no_fetch_fault fault.0)
+          ]
+        ] in
+        elim h.ends [
+          | inl (answer, is, put) ↦ elim put [
+            | inl (same, wrote) ↦ inr (answer, over answer is, same, wrote)
+            | inr (broke_is, (n, broke)) ↦ absurd (no_put_fault broke.rose)
+          ]
+          | inr without ↦ inl without
+        ];
+  }

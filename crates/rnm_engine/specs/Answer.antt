@@ -69,13 +69,13 @@ pub record IsAnswered {S K : Type 0} (fetches : S → List ℕ → ℕ → Fetch
       → IsExplained words held (Rose (shelf_state shelf).faults (shelf_state shelf_after).faults) (files_of_words words) given
   pub ends : EndsBy puts sink_state words sink (IsAnswer words given) result sink_after
 
--- where the shelf tells what it holds, and neither it nor the sink has a fault, the answer over that is put, whole; or
--- memory ran out, and nothing is
-abbrev pub IsComplete : {S K : Type 0} → (S → ShelfState) → (K → List ℕ → K → Type 0) → (K → SinkState) → List (List ℕ) → S → K → Status → S → K → Type 0
-IsComplete shelf_state puts sink_state words shelf sink result shelf_after sink_after =
-    (held : ShelfFiles) → (shelf_state shelf).told ≡ Some held
-    → ¬ (Rose (shelf_state shelf).faults (shelf_state shelf_after).faults)
-    → ¬ (Rose (sink_state sink).faults (sink_state sink_after).faults)
-    → ((result ≡ NoMemory) × WroteAll puts sink_state sink [] sink_after)
-    ⊎ ((answer : Answer) × IsAnswer words (given_by words held (files_of_words words)) answer
-    × (result ≡ answer_status answer) × WroteAll puts sink_state sink (answer_lines words answer) sink_after)
+-- Where the shelf tells what it holds, and neither it nor the sink has a fault, the answer over that is put, whole; or
+-- memory ran out, and nothing is.
+pub record IsComplete {S K : Type 0} (shelf_state : S → ShelfState) (puts : K → List ℕ → K → Type 0) (sink_state : K → SinkState)
+    (words : List (List ℕ)) (shelf : S) (sink : K) (result : Status) (shelf_after : S) (sink_after : K) : Type 0 where
+  pub whole : (held : ShelfFiles) → (shelf_state shelf).told ≡ Some held
+      → ¬ (Rose (shelf_state shelf).faults (shelf_state shelf_after).faults)
+      → ¬ (Rose (sink_state sink).faults (sink_state sink_after).faults)
+      → ((result ≡ NoMemory) × WroteAll puts sink_state sink [] sink_after)
+      ⊎ ((answer : Answer) × IsAnswer words (given_by words held (files_of_words words)) answer
+      × (result ≡ answer_status answer) × WroteAll puts sink_state sink (answer_lines words answer) sink_after)

@@ -126,8 +126,3 @@ abbrev pub TakesNone : Result Status Stop → Type 0
 TakesNone (Ok result) = result ≢ status.NoMemory
 TakesNone (Err (Refused refusal)) = names_file refusal ≡ false
 TakesNone (Err NoMemory) = ⊥
-
--- why `mean` stops
-abbrev pub IsMeanStop : List ℕ → Stop → Type 0
-IsMeanStop source (Refused refusal) = IsOwn (IsMeanAnswer source) (refused refusal)
-IsMeanStop source NoMemory = Unit {0}

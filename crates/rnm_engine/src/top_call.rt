@@ -17,8 +17,9 @@ use outside::{Shelf, Sink};
 use set_commands::{decode, describe, encode};
 use std::alloc::Global;
 
-/// Does the job that the words ask for, over files from a shelf: what is printed goes to the sink, each line in
-/// one put, and the status says how the job ended. After a put that failed there is no other.
+/// Does the job that the words ask for, over files from a shelf: what is printed goes to the sink,
+/// each line in one put, and the status says how the job ended. After a put that failed there is no
+/// other.
 pub fn rnm<S: Shelf, K: Sink>(
     alloc: Global,
     words: &[String],
@@ -28,7 +29,8 @@ pub fn rnm<S: Shelf, K: Sink>(
     // The files of the job are fetched in order, and what is put is the answer over what they give.
     ensures answer { IsAnswered S.fetches S.state K.puts K.state (words_of words.now)
         shelf.old sink.old result shelf.new sink.new }
-    // Where the shelf tells what it holds and nothing fails, it is the answer over that, whole; or memory ran out.
+    // Where the shelf tells what it holds and nothing fails, it is the answer over that, whole; or
+    // memory ran out.
     ensures complete { IsComplete S.state K.puts K.state (words_of words.now)
         shelf.old sink.old result shelf.new sink.new }
 
@@ -106,7 +108,7 @@ fn do_job<K: Sink>(
         Job::Run { .. } => run(alloc, text_at(texts, 0), sink),
         Job::Decode { set, residues } => Ok(decode(&Moduli::of(*set), residues, sink)),
         Job::Encode { set, x } => Ok(encode(&Moduli::of(*set), *x, sink)),
-        Job::Mean { .. } => Err(mean(alloc, text_at(texts, 0))),
+        Job::Mean { .. } => mean(alloc, text_at(texts, 0), sink),
         Job::Set { set } => Ok(describe(&Moduli::of(*set), sink)),
     }
 }
