@@ -1,2 +1,3 @@
 pub use Rattle.source_tree.specs.Numbers
+pub mod Checked
 pub mod Names

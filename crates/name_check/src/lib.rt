@@ -4,6 +4,8 @@
 //! that the source breaks, with its line.
 #![tactic(auto)]
 
+mod checked;
 mod fault;
 
+pub use checked::Checked;
 pub use fault::NameFault;
