@@ -1,0 +1,9 @@
+-- The range of a named set.
+use Rattle.std.specs.Prelude.{ℤ, pos}
+use Rattle.moduli_sets.specs.Set.{range_bound}
+use Rattle.moduli_sets.specs.Name.{set_of_name}
+use Rattle.moduli_sets.specs.declared.set_name.SetName.{SetName}
+
+-- B of the set of a name: the integers of its range lie from -B to B
+abbrev pub bound_of : SetName → ℤ
+bound_of name = pos (range_bound (set_of_name name))
