@@ -1,7 +1,12 @@
+pub mod Corners
 pub mod Equations
+pub mod Judging
+pub mod NodeDemands
 pub mod OperatorLemmas
 pub mod Passing
 pub mod SameRuns
+pub mod TableLemmas
 pub mod WatchedExpressions
 pub mod WatchedPrograms
 pub mod WatchedStatements
+pub mod Words

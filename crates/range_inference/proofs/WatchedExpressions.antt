@@ -85,8 +85,8 @@ module _ (declared : List Declared) where
         let goes : (x : ℤ) (s : State) → LiesAndFits interval x s → (if test interval x then returns x s else elsewhere) ≡ returns x s =
         λ x s p. ap (λ b. if b then returns x s else elsewhere) (passes x p.0) in (
           ap (λ q. and_then q (λ x after. if test interval x then returns x after else elsewhere)) h.0
-          ∙ (and_then_agrees r (λ x after. if test interval x then returns x after else elsewhere) (λ x after. returns x after) (LiesAndFits interval) h.1 goes
-          ∙ and_then_returns r),
+              ∙ (and_then_agrees r (λ x after. if test interval x then returns x after else elsewhere) (λ x after. returns x after) (LiesAndFits interval) h.1 goes
+              ∙ and_then_returns r),
           h.1,
         )
 
@@ -163,7 +163,7 @@ module _ (declared : List Declared) where
         (λ y later q. (
           refl,
           leads_weaker (operator_result o x y line later) (λ z s. Lies z i × (s ≡ later)) (LiesAndFits i)
-          (operator_lands o a b x y line later p.0 q.0) (λ z s l. (l.0, subst (λ t. Fits declared t) (sym l.1) q.1)),
+              (operator_lands o a b x y line later p.0 q.0) (λ z s l. (l.0, subst (λ t. Fits declared t) (sym l.1) q.1)),
         )))))
 
     -- ---- trees
@@ -179,10 +179,10 @@ module _ (declared : List Declared) where
       interval = ap (λ (v : Watched). v.interval) is_w ∙ (same ∙ sym is_i);
       judged_interval = ap (λ (v : Judged). v.interval) is_j ∙ (same_j ∙ sym is_i);
       holds =
-        subst (λ (v : Watched). Holds v.evaluation (evaluation e) v.interval (expr_faults e) (judged e).demands) (sym is_w)
-        (subst (λ ev. Holds w.evaluation ev w.interval (expr_faults e) (judged e).demands) (sym is_ev)
-        (subst (λ faults. Holds w.evaluation ev w.interval faults (judged e).demands) (sym is_faults)
-        (subst (λ (k : Judged). Holds w.evaluation ev w.interval faults k.demands) (sym is_j) holds)));
+          subst (λ (v : Watched). Holds v.evaluation (evaluation e) v.interval (expr_faults e) (judged e).demands) (sym is_w)
+          (subst (λ ev. Holds w.evaluation ev w.interval (expr_faults e) (judged e).demands) (sym is_ev)
+          (subst (λ faults. Holds w.evaluation ev w.interval faults (judged e).demands) (sym is_faults)
+          (subst (λ (k : Judged). Holds w.evaluation ev w.interval faults k.demands) (sym is_j) holds)));
     }
 
     all_good : (e : Expr) → Good e

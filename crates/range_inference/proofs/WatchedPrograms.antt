@@ -59,16 +59,18 @@ not_empty_range range line none = of (int_lt range.high range.low) refl none
 params_have : (k : ℕ) (params : List Param) (scope : Scope) → params_faults k params scope ≡ [] → AllHave (params_declared k params)
 params_have k [] scope none = tt
 params_have k (p ∷ params) scope none =
-    let one = second_empty (as_new p.name scope) _ none in
-    (not_empty_range p.range p.name.line (first_empty (range_faults p.range p.name.line) _ one),
-    params_have (k + 1) params (scope ++ (p.name.bytes, variable k p.range) ∷ []) (second_empty (range_faults p.range p.name.line) _ one))
+    let one = second_empty (as_new p.name scope) _ none in (
+      not_empty_range p.range p.name.line (first_empty (range_faults p.range p.name.line) _ one),
+      params_have (k + 1) params (scope ++ (p.name.bytes, variable k p.range) ∷ []) (second_empty (range_faults p.range p.name.line) _ one),
+    )
 
 locals_have : (k : ℕ) (locals : List Local) (scope : Scope) → locals_faults k locals scope ≡ [] → AllHave (locals_declared k locals)
 locals_have k [] scope none = tt
 locals_have k (l ∷ locals) scope none =
-    let one = second_empty (as_new l.name scope) _ none in
-    (not_empty_range l.range l.name.line (first_empty (range_faults l.range l.name.line) _ one),
-    locals_have (k + 1) locals (scope ++ (l.name.bytes, variable k l.range) ∷ []) (second_empty (range_faults l.range l.name.line) _ one))
+    let one = second_empty (as_new l.name scope) _ none in (
+      not_empty_range l.range l.name.line (first_empty (range_faults l.range l.name.line) _ one),
+      locals_have (k + 1) locals (scope ++ (l.name.bytes, variable k l.range) ∷ []) (second_empty (range_faults l.range l.name.line) _ one),
+    )
 
 declaration_has : (k procedures : ℕ) (d : Declaration) (scope : Scope) → declaration_faults k procedures d scope ≡ [] → AllHave (declared_in k d)
 declaration_has k procedures (Var name range line) scope none =
@@ -79,10 +81,12 @@ declaration_has k procedures (Array name len range line) scope none =
 declaration_has k procedures (Proc name params locals body line) scope none =
     let one = second_empty (as_new name scope) _ none in
     let two = second_empty (where_broken (nat_eq procedures most_procedures) (TooMany name.line)) _ one in
-    let three = second_empty (params_faults (k + 1) params scope) _ two in
-    (tt, have-append (params_declared (k + 1) params) (locals_declared (k + 1 + length params) locals)
-    (params_have (k + 1) params scope (first_empty (params_faults (k + 1) params scope) _ two))
-    (locals_have (k + 1 + length params) locals (with_params (k + 1) params scope) (first_empty (locals_faults (k + 1 + length params) locals (with_params (k + 1) params scope)) _ three)))
+    let three = second_empty (params_faults (k + 1) params scope) _ two in (
+      tt,
+      have-append (params_declared (k + 1) params) (locals_declared (k + 1 + length params) locals)
+          (params_have (k + 1) params scope (first_empty (params_faults (k + 1) params scope) _ two))
+          (locals_have (k + 1 + length params) locals (with_params (k + 1) params scope) (first_empty (locals_faults (k + 1 + length params) locals (with_params (k + 1) params scope)) _ three)),
+    )
 
 all_have : (k procedures : ℕ) (ds : List Declaration) (statements : List Statement) (scope : Scope) → faults_of_rest k procedures ds statements scope ≡ [] → AllHave (all_declared k ds)
 all_have k procedures [] statements scope none = tt

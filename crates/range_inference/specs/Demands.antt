@@ -1,7 +1,7 @@
 -- What has to lie in the range of a set: declared ranges, the numbers of limits, and the intervals of all nodes of
 -- expressions. All of it in text order; in an expression the operands or the index stand before their node, as they
 -- are evaluated.
-use Rattle.std.specs.Prelude.{ℕ, ◌+◌, ℤ, List, [], ◌∷◌, ◌++◌, map, if◌then◌else◌}
+use Rattle.std.specs.Prelude.{ℕ, ◌+◌, ℤ, List, [], ◌∷◌, ◌++◌, if◌then◌else◌}
 use Rattle.std.specs.List.{flat_map}
 use Rattle.source_tree.specs.Scope.{Scope, range_at, inside, with_declared, names_in, with_all_declared}
 use Rattle.source_tree.specs.declared.name.Range.{Range}
@@ -93,10 +93,10 @@ statements_demands statements ranges = flat_map (λ s. statement_demands s range
 
 -- ---- declarations; a parameter or local has the line of its name
 abbrev pub params_demands : List Param → List Demand
-params_demands params = map (λ p. declared p.range p.name.line) params
+params_demands params = flat_map (λ p. declared p.range p.name.line ∷ []) params
 
 abbrev pub locals_demands : List Local → List Demand
-locals_demands locals = map (λ l. declared l.range l.name.line) locals
+locals_demands locals = flat_map (λ l. declared l.range l.name.line ∷ []) locals
 
 abbrev pub procedure_demands : ℕ → List Param → List Local → List Statement → Scope → List Demand
 procedure_demands k params locals body scope =

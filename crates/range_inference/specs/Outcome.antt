@@ -1,5 +1,5 @@
 -- What a walk over a part of a source answers.
-use Rattle.std.specs.Prelude.{◌≡◌, ℕ, ℤ, pos, neg_ℤ, ◌^◌, ◌≤ℤ◌, ◌<ℤ◌, List, [], ◌∷◌, Bool, true, false, Result, Ok, Err, ⊤}
+use Rattle.std.specs.Prelude.{◌≡◌, ℕ, ℤ, List, [], ◌∷◌, Bool, true, false, Result, Ok, Err, ⊤}
 use Rattle.range_inference.specs.Demands.{Demand, wide_lines}
 use Rattle.range_inference.specs.Interval.{is_within_bound}
 use Rattle.range_inference.specs.declared.fault.RangeFault.{RangeFault}
@@ -20,8 +20,3 @@ IsJudged bound demands (Err fault) = IsFirst (wide_lines bound demands) fault
 abbrev pub IsRequired : ℤ → Interval → ℕ → Result ⊤ RangeFault → Type 0
 IsRequired bound interval line (Ok done) = is_within_bound bound interval ≡ true
 IsRequired bound interval line (Err fault) = (is_within_bound bound interval ≡ false) × (fault ≡ TooWide line)
-
--- a bound of which two add up to less than 2 ^ 127
-pub record IsSetBound (bound : ℤ) : Type 0 where
-  pub low : pos 0 ≤ℤ bound
-  pub high : bound <ℤ pos (2 ^ 126)

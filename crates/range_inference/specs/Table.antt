@@ -1,5 +1,5 @@
 -- Ranges by name.
-use Rattle.std.specs.Prelude.{◌≡◌, ℕ, List, map, Option, Some, None}
+use Rattle.std.specs.Prelude.{◌≡◌, ℕ, List, ◌++◌, map, Option, Some, None}
 use Rattle.std.specs.Global.{Vec}
 use Rattle.plain_text.specs.Lookup.{Named, lookup}
 use Rattle.source_tree.specs.Scope.{Scope, empty_range, range_of}
@@ -25,3 +25,7 @@ ranges_of scope = map (λ e. (e.0, range_of (Some e.1))) scope
 -- a table has the ranges of a scope
 abbrev pub Mirrors : Named Range → Scope → Type 0
 Mirrors entries scope = (x : List ℕ) → lookup x entries ≡ lookup x (ranges_of scope)
+
+-- the same entries, and more behind them
+abbrev pub Extends : Named Range → Named Range → Type 0
+Extends before after = (more : Named Range) × (after ≡ before ++ more)

@@ -1,10 +1,11 @@
-ghost use Rattle.std.specs.Prelude.{◌≡◌, ℕ, List, ◌∷◌, [], ◌++◌, length, take, OnOk};
+ghost use Rattle.std.specs.Prelude.{◌≡◌, ℕ, List, ◌∷◌, [], ◌++◌, OnOk};
 ghost use Rattle.plain_text.specs.Lookup.{lookup};
 ghost use Rattle.range_inference.specs.Demands.{declaration_demands, declarations_demands, declared, locals_demands, node_intervals, params_demands, procedure_demands};
-ghost use Rattle.range_inference.specs.Outcome.{IsJudged, IsSetBound};
-ghost use Rattle.range_inference.specs.Table.{Mirrors};
+ghost use Rattle.range_inference.specs.Outcome.{IsJudged};
+ghost use Rattle.range_inference.specs.Table.{Extends, Mirrors};
 ghost use Rattle.source_tree.specs.Scope.{Scope, with_all_declared, with_declared, with_locals, with_params};
 
+use crate::bound::Bound;
 use crate::demand::require;
 use crate::fault::RangeFault;
 use crate::interval::Interval;
@@ -19,12 +20,11 @@ pub fn declarations(
     alloc: Global,
     list: &[Declaration],
     table: &mut RangeTable,
-    bound: i128,
+    bound: Bound,
     intervals: &mut Items<Interval>,
 ) -> Result<(), RangeFault>
-    requires bound { IsSetBound bound }
-    requires empty { table.old ≡ [] }
-    ensures first { IsJudged bound (declarations_demands 0 list.now []) result }
+    requires { table.old ≡ [] }
+    ensures first { IsJudged bound.value (declarations_demands 0 list.now []) result }
     ensures intervals { OnOk result (intervals.new ≡ intervals.old ++ node_intervals (declarations_demands 0 list.now [])) }
     ensures ranges { OnOk result (Mirrors table.new (with_all_declared 0 list.now [])) }
 {
@@ -39,13 +39,12 @@ fn declaration(
     alloc: Global,
     d: &Declaration,
     table: &mut RangeTable,
-    bound: i128,
+    bound: Bound,
     intervals: &mut Items<Interval>,
 ) -> Result<(), RangeFault>
-    requires { IsSetBound bound }
     ensures first { (k : ℕ) (scope : Scope)
         → Mirrors table.old scope
-        → IsJudged bound (declaration_demands k d.now scope) result }
+        → IsJudged bound.value (declaration_demands k d.now scope) result }
     ensures intervals { (k : ℕ) (scope : Scope)
         → Mirrors table.old scope
         → OnOk result (intervals.new ≡ intervals.old ++ node_intervals (declaration_demands k d.now scope)) }
@@ -93,13 +92,12 @@ fn procedure(
     inner: &[Local],
     body: &[Statement],
     table: &mut RangeTable,
-    bound: i128,
+    bound: Bound,
     intervals: &mut Items<Interval>,
 ) -> Result<(), RangeFault>
-    requires { IsSetBound bound }
     ensures first { (k : ℕ) (scope : Scope)
         → Mirrors table.old scope
-        → IsJudged bound (procedure_demands k own.now inner.now body.now scope) result }
+        → IsJudged bound.value (procedure_demands k own.now inner.now body.now scope) result }
     ensures intervals { (k : ℕ) (scope : Scope)
         → Mirrors table.old scope
         → OnOk result (intervals.new ≡ intervals.old ++ node_intervals (procedure_demands k own.now inner.now body.now scope)) }
@@ -118,14 +116,13 @@ fn params(
     alloc: Global,
     list: &[Param],
     table: &mut RangeTable,
-    bound: i128,
+    bound: Bound,
 ) -> Result<(), RangeFault>
-    requires { IsSetBound bound }
-    ensures first { IsJudged bound (params_demands list.now) result }
+    ensures first { IsJudged bound.value (params_demands list.now) result }
     ensures ranges { OnOk result ((k : ℕ) (scope : Scope)
         → Mirrors table.old scope
         → Mirrors table.new (with_params k list.now scope)) }
-    ensures others { OnOk result (take (length table.old) table.new ≡ table.old) }
+    ensures others { OnOk result (Extends table.old table.new) }
 {
     for p in list {
         variable(alloc, &p.name, p.range, table, bound)?;
@@ -138,14 +135,13 @@ fn locals(
     alloc: Global,
     list: &[Local],
     table: &mut RangeTable,
-    bound: i128,
+    bound: Bound,
 ) -> Result<(), RangeFault>
-    requires { IsSetBound bound }
-    ensures first { IsJudged bound (locals_demands list.now) result }
+    ensures first { IsJudged bound.value (locals_demands list.now) result }
     ensures ranges { OnOk result ((k : ℕ) (scope : Scope)
         → Mirrors table.old scope
         → Mirrors table.new (with_locals k list.now scope)) }
-    ensures others { OnOk result (take (length table.old) table.new ≡ table.old) }
+    ensures others { OnOk result (Extends table.old table.new) }
 {
     for l in list {
         variable(alloc, &l.name, l.range, table, bound)?;
@@ -159,12 +155,11 @@ fn variable(
     name: &Name,
     range: Range,
     table: &mut RangeTable,
-    bound: i128,
+    bound: Bound,
 ) -> Result<(), RangeFault>
-    requires { IsSetBound bound }
-    ensures first { IsJudged bound (declared range name.now.line ∷ []) result }
+    ensures first { IsJudged bound.value (declared range name.now.line ∷ []) result }
     ensures ranges { OnOk result ((x : List ℕ) → lookup x table.new ≡ lookup x (table.old ++ (name.now.bytes, range) ∷ [])) }
-    ensures others { OnOk result (take (length table.old) table.new ≡ table.old) }
+    ensures others { OnOk result (Extends table.old table.new) }
 {
     require(Interval::of_range(range), name.line, bound)?;
     table.declare(alloc, name.bytes.as_slice(), range)?;

@@ -1,16 +1,16 @@
 ghost use Rattle.std.specs.Prelude.{◌≡◌, ◌∷◌, [], ◌++◌, true, IfOk, OnOk};
 ghost use Rattle.range_inference.specs.Demands.{node};
 ghost use Rattle.range_inference.specs.Interval.{is_within_bound};
-ghost use Rattle.range_inference.specs.Outcome.{IsRequired, IsJudged, IsSetBound};
+ghost use Rattle.range_inference.specs.Outcome.{IsRequired, IsJudged};
 
+use crate::bound::Bound;
 use crate::fault::RangeFault;
 use crate::interval::Interval;
 use sqlite_items::Items;
 
 /// Refuses an interval that is too wide.
-pub fn require(interval: Interval, line: u32, bound: i128) -> Result<(), RangeFault>
-    requires { IsSetBound bound }
-    ensures { IsRequired bound interval line result }
+pub fn require(interval: Interval, line: u32, bound: Bound) -> Result<(), RangeFault>
+    ensures { IsRequired bound.value interval line result }
 {
     if interval.is_within(bound) {
         Ok(())
@@ -23,12 +23,11 @@ pub fn require(interval: Interval, line: u32, bound: i128) -> Result<(), RangeFa
 pub fn put(
     interval: Interval,
     line: u32,
-    bound: i128,
+    bound: Bound,
     intervals: &mut Items<Interval>,
 ) -> Result<Interval, RangeFault>
-    requires { IsSetBound bound }
-    ensures value { IfOk result (λ i. (i ≡ interval) × (is_within_bound bound interval ≡ true)) }
-    ensures first { IsJudged bound (node interval line ∷ []) result }
+    ensures value { IfOk result (λ i. (i ≡ interval) × (is_within_bound bound.value interval ≡ true)) }
+    ensures first { IsJudged bound.value (node interval line ∷ []) result }
     ensures intervals { OnOk result (intervals.new ≡ intervals.old ++ interval ∷ []) }
 {
     require(interval, line, bound)?;

@@ -1,9 +1,10 @@
 ghost use Rattle.std.specs.Prelude.{◌≡◌, ◌++◌, true, IfOk, OnOk};
 ghost use Rattle.range_inference.specs.Demands.{condition_demands, expr_demands, exprs_demands, node_intervals, place_demands};
 ghost use Rattle.range_inference.specs.Interval.{interval_of, is_within_bound};
-ghost use Rattle.range_inference.specs.Outcome.{IsJudged, IsSetBound};
+ghost use Rattle.range_inference.specs.Outcome.{IsJudged};
 ghost use Rattle.range_inference.specs.Table.{range_in};
 
+use crate::bound::Bound;
 use crate::demand::put;
 use crate::fault::RangeFault;
 use crate::interval::Interval;
@@ -16,22 +17,15 @@ use sqlite_items::Items;
 pub fn expr(
     e: &Expr,
     table: &RangeTable,
-    bound: i128,
+    bound: Bound,
     intervals: &mut Items<Interval>,
 ) -> Result<Interval, RangeFault>
-    requires { IsSetBound bound }
-    ensures value { IfOk result (λ i. (i ≡ interval_of e.now (range_in table.now)) × (is_within_bound bound i ≡ true)) }
-    ensures first { IsJudged bound (expr_demands e.now (range_in table.now)) result }
+    ensures value { IfOk result (λ i. (i ≡ interval_of e.now (range_in table.now)) × (is_within_bound bound.value i ≡ true)) }
+    ensures first { IsJudged bound.value (expr_demands e.now (range_in table.now)) result }
     ensures intervals { OnOk result (intervals.new ≡ intervals.old ++ node_intervals (expr_demands e.now (range_in table.now))) }
 {
     match e {
-        Expr::Number { value, line } => {
-            let interval = Interval {
-                low: *value,
-                high: *value,
-            };
-            put(interval, *line, bound, intervals)
-        }
+        Expr::Number { value, line } => put(Interval::one(*value), *line, bound, intervals),
         Expr::Name(name) => {
             let range = table.range(name.bytes.as_slice());
             put(Interval::of_range(range), name.line, bound, intervals)
@@ -65,11 +59,10 @@ pub fn expr(
 pub fn condition(
     condition: &Condition,
     table: &RangeTable,
-    bound: i128,
+    bound: Bound,
     intervals: &mut Items<Interval>,
 ) -> Result<(), RangeFault>
-    requires { IsSetBound bound }
-    ensures first { IsJudged bound (condition_demands condition.now (range_in table.now)) result }
+    ensures first { IsJudged bound.value (condition_demands condition.now (range_in table.now)) result }
     ensures intervals { OnOk result (intervals.new ≡ intervals.old ++ node_intervals (condition_demands condition.now (range_in table.now))) }
 {
     expr(&condition.left, table, bound, intervals)?;
@@ -81,11 +74,10 @@ pub fn condition(
 pub fn place(
     place: &Place,
     table: &RangeTable,
-    bound: i128,
+    bound: Bound,
     intervals: &mut Items<Interval>,
 ) -> Result<(), RangeFault>
-    requires { IsSetBound bound }
-    ensures first { IsJudged bound (place_demands place.now (range_in table.now)) result }
+    ensures first { IsJudged bound.value (place_demands place.now (range_in table.now)) result }
     ensures intervals { OnOk result (intervals.new ≡ intervals.old ++ node_intervals (place_demands place.now (range_in table.now))) }
 {
     match place {
@@ -101,11 +93,10 @@ pub fn place(
 pub fn exprs(
     expressions: &[Expr],
     table: &RangeTable,
-    bound: i128,
+    bound: Bound,
     intervals: &mut Items<Interval>,
 ) -> Result<(), RangeFault>
-    requires { IsSetBound bound }
-    ensures first { IsJudged bound (exprs_demands expressions.now (range_in table.now)) result }
+    ensures first { IsJudged bound.value (exprs_demands expressions.now (range_in table.now)) result }
     ensures intervals { OnOk result (intervals.new ≡ intervals.old ++ node_intervals (exprs_demands expressions.now (range_in table.now))) }
 {
     for e in expressions {

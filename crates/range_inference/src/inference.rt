@@ -1,14 +1,15 @@
 ghost use Rattle.std.specs.Prelude.{◌≡◌, [], IfOk, IfErr, OnOk};
 ghost use Rattle.range_inference.specs.Bound.{bound_of};
 ghost use Rattle.range_inference.specs.Demands.{demands_of, intervals_in, too_wide};
-ghost use Rattle.range_inference.specs.Outcome.{IsFirst, IsJudged, IsSetBound};
+ghost use Rattle.range_inference.specs.Outcome.{IsFirst, IsJudged};
 
+use crate::bound::Bound;
 use crate::declarations::declarations;
 use crate::fault::RangeFault;
 use crate::interval::Interval;
 use crate::range_table::RangeTable;
 use crate::statements::statements;
-use moduli_sets::{Moduli, SetName};
+use moduli_sets::SetName;
 use name_check::Checked;
 use source_tree::Program;
 use sqlite_items::Items;
@@ -56,7 +57,7 @@ pub fn infer(alloc: Global, checked: Checked, set: SetName) -> Result<Ranged, Ra
     ensures narrow { OnOk result (too_wide (bound_of set) checked.program ≡ []) }
     ensures first { IfErr result (λ fault. IsFirst (too_wide (bound_of set) checked.program) fault) }
 {
-    let intervals = intervals_of(alloc, checked.program(), bound(set))?;
+    let intervals = intervals_of(alloc, checked.program(), Bound::of(set))?;
     Ok(Ranged {
         checked,
         set,
@@ -64,21 +65,14 @@ pub fn infer(alloc: Global, checked: Checked, set: SetName) -> Result<Ranged, Ra
     })
 }
 
-/// B of a set.
-fn bound(set: SetName) -> i128
-    ensures { result ≡ bound_of set }
-{
-    Moduli::of(set).bound()
-}
-
+/// Judges a program, and gives the interval of each node.
 fn intervals_of(
     alloc: Global,
     program: &Program,
-    bound: i128,
+    bound: Bound,
 ) -> Result<Items<Interval>, RangeFault>
-    requires { IsSetBound bound }
     ensures value { IfOk result (λ intervals. intervals ≡ intervals_in program.now) }
-    ensures first { IsJudged bound (demands_of program.now) result }
+    ensures first { IsJudged bound.value (demands_of program.now) result }
 {
     let mut table = RangeTable::new(alloc);
     let mut intervals = Items::new(alloc);

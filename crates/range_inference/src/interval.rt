@@ -1,7 +1,7 @@
 ghost use Rattle.std.specs.Prelude.{◌≡◌};
-ghost use Rattle.range_inference.specs.Interval.{interval_of_range, is_bounded, is_within_bound};
-ghost use Rattle.range_inference.specs.Outcome.{IsSetBound};
+ghost use Rattle.range_inference.specs.Interval.{from_to, interval_of_range, is_within_bound};
 
+use crate::bound::Bound;
 use source_tree::Range;
 
 /// The integers from `low` to `high`.
@@ -12,6 +12,16 @@ pub struct Interval {
 }
 
 impl Interval {
+    /// One integer.
+    pub(crate) fn one(value: i128) -> Interval
+        ensures { result ≡ from_to value value }
+    {
+        Interval {
+            low: value,
+            high: value,
+        }
+    }
+
     /// The integers of a declared range.
     pub(crate) fn of_range(range: Range) -> Interval
         ensures { result ≡ interval_of_range range }
@@ -23,17 +33,9 @@ impl Interval {
     }
 
     /// Whether both ends lie from -bound to bound.
-    pub(crate) fn is_within(self, bound: i128) -> bool
-        requires { IsSetBound bound }
-        ensures { result ≡ is_within_bound bound self }
+    pub(crate) fn is_within(self, bound: Bound) -> bool
+        ensures { result ≡ is_within_bound bound.value self }
     {
-        is_bounded(bound, self.low) && is_bounded(bound, self.high)
+        bound.has(self.low) && bound.has(self.high)
     }
-}
-
-fn is_bounded(bound: i128, x: i128) -> bool
-    requires { IsSetBound bound }
-    ensures { result ≡ is_bounded bound x }
-{
-    -bound <= x && x <= bound
 }

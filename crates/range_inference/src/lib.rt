@@ -6,6 +6,7 @@
 //! every evaluation.
 #![tactic(auto)]
 
+mod bound;
 mod declarations;
 mod demand;
 mod expressions;

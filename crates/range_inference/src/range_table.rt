@@ -1,6 +1,6 @@
 ghost use Rattle.std.specs.Prelude.{◌≡◌, List, ℕ, [], ◌∷◌, ◌++◌, length, take, OnOk};
 ghost use Rattle.plain_text.specs.Lookup.{lookup};
-ghost use Rattle.range_inference.specs.Table.{range_in};
+ghost use Rattle.range_inference.specs.Table.{Extends, range_in};
 
 use indexmap::IndexMap;
 use source_tree::Range;
@@ -55,7 +55,7 @@ impl RangeTable {
     /// Puts a name with its range behind the others. One that is there already keeps its range.
     pub fn declare(&mut self, alloc: Global, name: &[u8], range: Range) -> Result<(), AllocError>
         ensures ranges { OnOk result ((x : List ℕ) → lookup x self.new ≡ lookup x (self.old ++ (name.now, range) ∷ [])) }
-        ensures others { OnOk result (take (length self.old) self.new ≡ self.old) }
+        ensures others { OnOk result (Extends self.old self.new) }
     {
         if self.entries.get(name).is_some() {
             return Ok(());

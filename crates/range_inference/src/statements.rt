@@ -1,8 +1,9 @@
 ghost use Rattle.std.specs.Prelude.{◌≡◌, ◌++◌, OnOk};
 ghost use Rattle.range_inference.specs.Demands.{node_intervals, statement_demands, statements_demands};
-ghost use Rattle.range_inference.specs.Outcome.{IsJudged, IsSetBound};
+ghost use Rattle.range_inference.specs.Outcome.{IsJudged};
 ghost use Rattle.range_inference.specs.Table.{range_in};
 
+use crate::bound::Bound;
 use crate::demand::require;
 use crate::expressions::{condition, expr, exprs, place};
 use crate::fault::RangeFault;
@@ -16,11 +17,10 @@ use sqlite_items::Items;
 pub fn statements(
     list: &[Statement],
     table: &RangeTable,
-    bound: i128,
+    bound: Bound,
     intervals: &mut Items<Interval>,
 ) -> Result<(), RangeFault>
-    requires { IsSetBound bound }
-    ensures first { IsJudged bound (statements_demands list.now (range_in table.now)) result }
+    ensures first { IsJudged bound.value (statements_demands list.now (range_in table.now)) result }
     ensures intervals { OnOk result (intervals.new ≡ intervals.old ++ node_intervals (statements_demands list.now (range_in table.now))) }
 {
     for s in list {
@@ -34,11 +34,10 @@ pub fn statements(
 fn statement(
     s: &Statement,
     table: &RangeTable,
-    bound: i128,
+    bound: Bound,
     intervals: &mut Items<Interval>,
 ) -> Result<(), RangeFault>
-    requires { IsSetBound bound }
-    ensures first { IsJudged bound (statement_demands s.now (range_in table.now)) result }
+    ensures first { IsJudged bound.value (statement_demands s.now (range_in table.now)) result }
     ensures intervals { OnOk result (intervals.new ≡ intervals.old ++ node_intervals (statement_demands s.now (range_in table.now))) }
 {
     match s {
@@ -81,11 +80,7 @@ fn statement(
             line,
         } => {
             condition(test, table, bound, intervals)?;
-            let turns = Interval {
-                low: *limit,
-                high: *limit,
-            };
-            require(turns, *line, bound)?;
+            require(Interval::one(*limit), *line, bound)?;
             statements(body.as_slice(), table, bound, intervals)?;
         }
         Statement::Call { arguments, .. } => exprs(arguments.as_slice(), table, bound, intervals)?,
