@@ -19,6 +19,9 @@ flat-append f (x ∷ a) b = ap (λ l. f x ++ l) (flat-append f a b) ∙ sym (app
 pub nodes-append : (a b : List Demand) → node_intervals (a ++ b) ≡ node_intervals a ++ node_intervals b
 nodes-append a b = flat-append interval_in a b
 
+pub taken : {X : Type 0} (xs : List X) (x : X) (i : ℕ) → i < length xs → x ≡ get_or xs i x → take (i + 1) xs ≡ take i xs ++ x ∷ []
+taken xs x i h is = ap (λ k. take k xs) (add-one i) ∙ take-suc xs i x h ∙ ap (λ y. take i xs ++ y ∷ []) (sym is)
+
 first-append : (a b : List ℕ) (fault : RangeFault) → IsFirst a fault → IsFirst (a ++ b) fault
 first-append a b (TooWide line) h = (h.0 ++ b, ap (λ l. l ++ b) h.1)
 first-append a b NoMemory h = tt
@@ -34,7 +37,7 @@ module _ (bound : ℤ) where
   none_both a b h k = none_then a b h ∙ k
 
   -- ---- a part that is refused
-  told : {A : Type 0} (demands : List Demand) (fault : RangeFault) (result : Result A RangeFault)
+  pub told : {A : Type 0} (demands : List Demand) (fault : RangeFault) (result : Result A RangeFault)
       → IsFirst (wide_lines bound demands) fault → IsErrAnd result (λ own. own ≡ fault) → IsJudged bound demands result
   told demands fault (Ok x) first same = absurd same
   told demands fault (Err own) first same = subst (λ f. IsFirst (wide_lines bound demands) f) (sym same) first
@@ -105,11 +108,8 @@ module _ (bound : ℤ) where
 
   -- ---- over a list
   module _ {X : Type 0} (f : X → List Demand) (xs : List X) (x : X) (i : ℕ) (h : i < length xs) (is : x ≡ get_or xs i x) where
-    taken : take (i + 1) xs ≡ take i xs ++ x ∷ []
-    taken = ap (λ k. take k xs) (add-one i) ∙ take-suc xs i x h ∙ ap (λ y. take i xs ++ y ∷ []) (sym is)
-
     pub more : flat_map f (take (i + 1) xs) ≡ flat_map f (take i xs) ++ f x
-    more = ap (flat_map f) taken ∙ flat-append f (take i xs) (x ∷ []) ∙ ap (λ l. flat_map f (take i xs) ++ l) (append-nil (f x))
+    more = ap (flat_map f) (taken xs x i h is) ∙ flat-append f (take i xs) (x ∷ []) ∙ ap (λ l. flat_map f (take i xs) ++ l) (append-nil (f x))
 
   pub parted : {X : Type 0} (f : X → List Demand) (xs : List X) (x : X) (i : ℕ) → i < length xs → x ≡ get_or xs i x
       → (rest : List Demand) × (flat_map f xs ≡ flat_map f (take i xs) ++ (f x ++ rest))
@@ -137,6 +137,10 @@ module _ (bound : ℤ) where
       → wide_lines bound (flat_map f (take (i + 1) xs)) ≡ []
   member_none f xs x i h is before none =
       ap (wide_lines bound) (more f xs x i h is) ∙ none_both (flat_map f (take i xs)) (f x) before none
+
+  pub all_none : {X : Type 0} (f : X → List Demand) (xs : List X) (i : ℕ)
+      → length xs ≤ i → wide_lines bound (flat_map f (take i xs)) ≡ [] → wide_lines bound (flat_map f xs) ≡ []
+  all_none f xs i h none = ap (λ l. wide_lines bound (flat_map f l)) (sym (take_all i xs h)) ∙ none
 
   pub all_done : {X : Type 0} (f : X → List Demand) (xs : List X) (i : ℕ) (start now : List Interval)
       → length xs ≤ i → Done (flat_map f (take i xs)) start now → Done (flat_map f xs) start now

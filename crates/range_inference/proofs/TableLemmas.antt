@@ -1,7 +1,8 @@
 -- What a table of ranges has for a name.
-use Rattle.std.proofs.Common.{◌≡◌, ℕ, ◌+◌, Bool, true, false, cond, List, [], ◌∷◌, ◌++◌, length, map, take, Option, Some, None, refl, sym, ap, ◌∙◌, subst, append_assoc}
+use Rattle.std.proofs.Common.{◌≡◌, ℕ, zero, suc, ◌+◌, Bool, true, false, cond, List, [], ◌∷◌, ◌++◌, length, map, take, Option, Some, None, refl, sym, ap, ◌∙◌, subst, append_assoc}
 use Rattle.std.specs.Prelude.{if◌then◌else◌, IsSome}
 use Rattle.std.specs.Global.{Vec}
+use Rattle.std.specs.Option.{is_some}
 use Rattle.std.specs.Str.{bytes_eq}
 use Rattle.std.specs.Map as map
 use Rattle.std.proofs.lemmas.Bool.Decides.{same_from_decides}
@@ -38,6 +39,15 @@ lookup-named [] name = refl
 lookup-named (e ∷ es) name =
     ap (λ b. if b then Some e.1 else lookup name (named es)) (bytes_eq-sym e.0.items name)
     ∙ ap (λ r. if bytes_eq name e.0.items then Some e.1 else r) (lookup-named es name)
+
+pub take-named : (n : ℕ) (es : List (Vec ℕ × Range)) → named (take n es) ≡ take n (named es)
+take-named zero es = refl
+take-named (suc n) [] = refl
+take-named (suc n) (e ∷ es) = ap (λ l. (e.0.items, e.1) ∷ l) (take-named n es)
+
+pub not_some : {A : Type 0} (o : Option A) → is_some o ≡ false → o ≡ None
+not_some (Some x) h = cc
+not_some None h = refl
 
 -- ---- ranges under names
 pub range_is : (entries : Named Range) (name : List ℕ) (o : Option Range) → lookup name entries ≡ o → range_or_empty o ≡ range_in entries name

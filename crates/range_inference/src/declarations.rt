@@ -53,16 +53,15 @@ fn declaration(
         → OnOk result (Mirrors table.new (with_declared k d.now scope)) }
 {
     match d {
-        Declaration::Var { name, range, line }
-        | Declaration::Array {
+        Declaration::Var { name, range, line } => {
+            variable(alloc, name, *range, *line, table, bound)
+        }
+        Declaration::Array {
             name,
             range,
             line,
             ..
-        } => {
-            require(Interval::of_range(*range), *line, bound)?;
-            table.declare(alloc, name.bytes.as_slice(), *range)?;
-        }
+        } => variable(alloc, name, *range, *line, table, bound),
         Declaration::Proc {
             name,
             params: own,
@@ -80,9 +79,9 @@ fn declaration(
                 intervals,
             )?;
             table.declare(alloc, name.bytes.as_slice(), EMPTY)?;
+            Ok(())
         }
     }
-    Ok(())
 }
 
 /// Judges parameters, locals and a body. The table is then as it was before.
@@ -125,7 +124,7 @@ fn params(
     ensures others { OnOk result (Extends table.old table.new) }
 {
     for p in list {
-        variable(alloc, &p.name, p.range, table, bound)?;
+        variable(alloc, &p.name, p.range, p.name.line, table, bound)?;
     }
     Ok(())
 }
@@ -144,24 +143,25 @@ fn locals(
     ensures others { OnOk result (Extends table.old table.new) }
 {
     for l in list {
-        variable(alloc, &l.name, l.range, table, bound)?;
+        variable(alloc, &l.name, l.range, l.name.line, table, bound)?;
     }
     Ok(())
 }
 
-/// Judges the range of a parameter or local, and puts its name into the table.
+/// Judges a declared range, and puts its name into the table.
 fn variable(
     alloc: Global,
     name: &Name,
     range: Range,
+    line: u32,
     table: &mut RangeTable,
     bound: Bound,
 ) -> Result<(), RangeFault>
-    ensures first { IsJudged bound.value (declared range name.now.line ∷ []) result }
+    ensures first { IsJudged bound.value (declared range line ∷ []) result }
     ensures ranges { OnOk result ((x : List ℕ) → lookup x table.new ≡ lookup x (table.old ++ (name.now.bytes, range) ∷ [])) }
     ensures others { OnOk result (Extends table.old table.new) }
 {
-    require(Interval::of_range(range), name.line, bound)?;
+    require(Interval::of_range(range), line, bound)?;
     table.declare(alloc, name.bytes.as_slice(), range)?;
     Ok(())
 }

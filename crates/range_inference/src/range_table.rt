@@ -1,6 +1,6 @@
-ghost use Rattle.std.specs.Prelude.{◌≡◌, List, ℕ, [], ◌∷◌, ◌++◌, length, take, OnOk};
+ghost use Rattle.std.specs.Prelude.{◌≡◌, List, ℕ, [], ◌∷◌, ◌++◌, length, take, None, OnOk};
 ghost use Rattle.plain_text.specs.Lookup.{lookup};
-ghost use Rattle.range_inference.specs.Table.{Extends, range_in};
+ghost use Rattle.range_inference.specs.Table.{Extends, named, range_in};
 
 use indexmap::IndexMap;
 use source_tree::Range;
@@ -57,14 +57,10 @@ impl RangeTable {
         ensures ranges { OnOk result ((x : List ℕ) → lookup x self.new ≡ lookup x (self.old ++ (name.now, range) ∷ [])) }
         ensures others { OnOk result (Extends self.old self.new) }
     {
-        if self.entries.get(name).is_some() {
+        if self.entries.contains_key(name) {
             return Ok(());
         }
-        let key = Vec::from_slice(alloc, name)?;
-        match self.entries.insert(key, range) {
-            Ok(_) => Ok(()),
-            Err(_) => Err(AllocError),
-        }
+        insert(alloc, &mut self.entries, name, range)
     }
 
     /// Forgets all names but the first `len`.
@@ -72,5 +68,22 @@ impl RangeTable {
         ensures { self.new ≡ take len self.old }
     {
         self.entries.truncate(len);
+    }
+}
+
+/// Puts a new name at the end.
+fn insert(
+    alloc: Global,
+    entries: &mut IndexMap<Vec<u8>, Range>,
+    name: &[u8],
+    range: Range,
+) -> Result<(), AllocError>
+    requires { lookup name.now (named entries.old.entries) ≡ None }
+    ensures { OnOk result (named entries.new.entries ≡ named entries.old.entries ++ (name.now, range) ∷ []) }
+{
+    let key = Vec::from_slice(alloc, name)?;
+    match entries.insert(key, range) {
+        Ok(_) => Ok(()),
+        Err(_) => Err(AllocError),
     }
 }
