@@ -6,8 +6,9 @@ use Rattle.source_tree.specs.declared.name.Range.{Range}
 use Rattle.source_tree.specs.declared.declaration.Param.{Param}
 use Rattle.source_tree.specs.declared.declaration.Local.{Local}
 use Rattle.source_tree.specs.declared.declaration.Declaration.{Declaration}
-use Rattle.range_inference.specs.Demands.{Demand, declaration_demands, declarations_demands}
+use Rattle.range_inference.specs.Demands.{Demand, params_demands, locals_demands, declaration_demands, declarations_demands, node_intervals}
 use Rattle.range_inference.specs.Table.{Mirrors}
+use Rattle.range_inference.proofs.Judging.{nodes-append}
 use Rattle.range_inference.proofs.TableLemmas.{mirrors_more}
 
 with_params-append : (k : ℕ) (xs : List Param) (p : Param) (scope : Scope)
@@ -68,3 +69,16 @@ at_declaration k (x ∷ ds) d (suc i) scope h is =
       more = ap (λ l. own ++ l) a.more ∙ sym (append_assoc own before here);
       names = a.names;
     }
+
+-- ---- ranges have no nodes
+pub params_have_no_nodes : (params : List Param) → node_intervals (params_demands params) ≡ []
+params_have_no_nodes [] = refl
+params_have_no_nodes (p ∷ params) = params_have_no_nodes params
+
+pub locals_have_no_nodes : (locals : List Local) → node_intervals (locals_demands locals) ≡ []
+locals_have_no_nodes [] = refl
+locals_have_no_nodes (l ∷ locals) = locals_have_no_nodes locals
+
+pub nodes_behind : (a b d : List Demand) → node_intervals a ≡ [] → node_intervals b ≡ [] → node_intervals d ≡ node_intervals (a ++ (b ++ d))
+nodes_behind a b d h k =
+    sym (nodes-append a (b ++ d) ∙ ap (λ l. l ++ node_intervals (b ++ d)) h ∙ nodes-append b d ∙ ap (λ l. l ++ node_intervals d) k)

@@ -82,8 +82,6 @@ fn insert(
     ensures { OnOk result (named entries.new.entries ≡ named entries.old.entries ++ (name.now, range) ∷ []) }
 {
     let key = Vec::from_slice(alloc, name)?;
-    match entries.insert(key, range) {
-        Ok(_) => Ok(()),
-        Err(_) => Err(AllocError),
-    }
+    entries.insert(key, range)?;
+    Ok(())
 }
