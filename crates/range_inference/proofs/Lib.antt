@@ -5,6 +5,8 @@ pub mod Judging
 pub mod NodeDemands
 pub mod OperatorLemmas
 pub mod Passing
+pub mod RowsOperators
+pub mod RowsPrograms
 pub mod SameRuns
 pub mod TableLemmas
 pub mod WatchedExpressions
