@@ -1,4 +1,5 @@
 pub use Rattle.source_tree.specs.Numbers
+pub mod Checked
 pub mod Names
 pub mod Reported
 pub mod Ties

@@ -51,18 +51,18 @@ length-declared_in k (Proc name params locals body line) =
 
 module _ (declared : List Declared) where
   -- of the first declaration, and of the rest
-  stands_first : (k : ℕ) (d : Declaration) (ds : List Declaration)
+  pub stands_first : (k : ℕ) (d : Declaration) (ds : List Declaration)
       → StandsAt declared k (all_declared k (d ∷ ds)) → StandsAt declared k (declared_in k d)
   stands_first k d ds h = (stands_parts declared k (declared_in k d) (all_declared (k + names_in d) ds) h).0
 
-  stands_rest : (k : ℕ) (d : Declaration) (ds : List Declaration)
+  pub stands_rest : (k : ℕ) (d : Declaration) (ds : List Declaration)
       → StandsAt declared k (all_declared k (d ∷ ds)) → StandsAt declared (k + names_in d) (all_declared (k + names_in d) ds)
   stands_rest k d ds h =
       subst (λ n. StandsAt declared (k + n) (all_declared (k + names_in d) ds)) (length-declared_in k d)
       (stands_parts declared k (declared_in k d) (all_declared (k + names_in d) ds) h).1
 
   -- of the parameters of a procedure, and of its locals
-  stands_params : (k : ℕ) (params : List Param) (locals : List Local)
+  pub stands_params : (k : ℕ) (params : List Param) (locals : List Local)
       → StandsAt declared (k + 1) (params_declared (k + 1) params ++ locals_declared (k + 1 + length params) locals)
       → StandsAt declared (k + 1) (params_declared (k + 1) params)
       × StandsAt declared (k + 1 + length params) (locals_declared (k + 1 + length params) locals)
@@ -74,21 +74,21 @@ module _ (declared : List Declared) where
       (both.0, subst (λ n. StandsAt declared (k + 1 + n) ls) e both.1)
 
   -- ---- scopes
-  scope_params : (k : ℕ) (params : List Param) (scope : Scope)
+  pub scope_params : (k : ℕ) (params : List Param) (scope : Scope)
       → StandsAt declared k (params_declared k params) → IsScopeOf declared scope
       → IsScopeOf declared (with_params k params scope)
   scope_params k [] scope h s = s
   scope_params k (p ∷ params) scope h s =
       scope_params (k + 1) params _ h.1 (scope_more declared scope p.name.bytes (variable k p.range) h.0 s)
 
-  scope_locals : (k : ℕ) (locals : List Local) (scope : Scope)
+  pub scope_locals : (k : ℕ) (locals : List Local) (scope : Scope)
       → StandsAt declared k (locals_declared k locals) → IsScopeOf declared scope
       → IsScopeOf declared (with_locals k locals scope)
   scope_locals k [] scope h s = s
   scope_locals k (l ∷ locals) scope h s =
       scope_locals (k + 1) locals _ h.1 (scope_more declared scope l.name.bytes (variable k l.range) h.0 s)
 
-  scope_declared : (k : ℕ) (d : Declaration) (scope : Scope)
+  pub scope_declared : (k : ℕ) (d : Declaration) (scope : Scope)
       → StandsAt declared k (declared_in k d) → IsScopeOf declared scope → IsScopeOf declared (with_declared k d scope)
   scope_declared k (Var name range line) scope h s = scope_more declared scope name.bytes (variable k range) h.0 s
   scope_declared k (Array name len range line) scope h s = scope_more declared scope name.bytes (array k len range) h.0 s
@@ -106,7 +106,7 @@ module _ (declared : List Declared) where
     range_at_place k range t = subst (λ o. HasRange o) t (ranges k)
 
     -- ---- calls
-    locals_keep : (k : ℕ) (locals : List Local) (state : State)
+    pub locals_keep : (k : ℕ) (locals : List Local) (state : State)
         → StandsAt declared k (locals_declared k locals) → Fits declared state
         → Leads (locals_set k locals state) (Kept declared ⊤)
     locals_keep k [] state h fits = fits
@@ -114,7 +114,7 @@ module _ (declared : List Declared) where
         locals_keep (k + 1) locals (with_integer k (start_of l.range) state) h.1
         (with_integer_fits declared k l.range (start_of l.range) state h.0 (start_within l.range (range_at_place k l.range h.0)) fits)
 
-    nothing_keeps : KeepFits declared no_calls
+    pub nothing_keeps : KeepFits declared no_calls
     nothing_keeps k params arguments state t suit fits = fits
 
     module _ (meant : Expr → Evaluation) (keeps : (e : Expr) → KeepsValue declared (meant e)) where
@@ -145,7 +145,7 @@ module _ (declared : List Declared) where
           → slice_get declared j ≡ Some (procedure j params) → slice_get declared j ≡ Some (procedure k others) → others ≡ params
       same_params j k params others t u = cc
 
-      with_call_keeps : (k : ℕ) (d : Declaration) (scope : Scope) (calls : Calls)
+      pub with_call_keeps : (k : ℕ) (d : Declaration) (scope : Scope) (calls : Calls)
           → StandsAt declared k (declared_in k d) → IsScopeOf declared scope → KeepFits declared calls
           → KeepFits declared (with_call meant k d scope calls)
       with_call_keeps k (Var name range line) scope calls h s c = c

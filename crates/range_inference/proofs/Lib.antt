@@ -1,0 +1,15 @@
+pub mod Corners
+pub mod DeclarationLists
+pub mod Equations
+pub mod Judging
+pub mod NodeDemands
+pub mod OperatorLemmas
+pub mod Passing
+pub mod RowsOperators
+pub mod RowsPrograms
+pub mod SameRuns
+pub mod TableLemmas
+pub mod WatchedExpressions
+pub mod WatchedPrograms
+pub mod WatchedStatements
+pub mod Words

@@ -1,0 +1,9 @@
+use Rattle.range_inference.proofs.Words.{same_ends, word_sum}
+use Rattle.range_inference.proofs.operators.sums.Goals as goal
+
+pub returns : goal.returns
+returns c =
+    let l = c.requires.left in
+    let r = c.requires.right in
+    same_ends _ _ _ _ (word_sum c.args.a.low c.args.b.low l.low_from l.low_to r.low_from r.low_to)
+    (word_sum c.args.a.high c.args.b.high l.high_from l.high_to r.high_from r.high_to)

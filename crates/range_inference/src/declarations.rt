@@ -1,0 +1,167 @@
+ghost use Rattle.std.specs.Prelude.{◌≡◌, ℕ, List, ◌∷◌, [], ◌++◌, OnOk};
+ghost use Rattle.plain_text.specs.Lookup.{lookup};
+ghost use Rattle.range_inference.specs.Demands.{declaration_demands, declarations_demands, declared, locals_demands, node_intervals, params_demands, procedure_demands};
+ghost use Rattle.range_inference.specs.Outcome.{IsJudged};
+ghost use Rattle.range_inference.specs.Table.{Extends, Mirrors};
+ghost use Rattle.source_tree.specs.Scope.{Scope, with_all_declared, with_declared, with_locals, with_params};
+
+use crate::bound::Bound;
+use crate::demand::require;
+use crate::fault::RangeFault;
+use crate::interval::Interval;
+use crate::range_table::{EMPTY, RangeTable};
+use crate::statements::statements;
+use source_tree::{Declaration, Local, Name, Param, Range, Statement};
+use sqlite_items::Items;
+use std::alloc::Global;
+
+/// Judges declarations, one after another, and puts their names into the table.
+pub fn declarations(
+    alloc: Global,
+    list: &[Declaration],
+    table: &mut RangeTable,
+    bound: Bound,
+    intervals: &mut Items<Interval>,
+) -> Result<(), RangeFault>
+    requires { table.old ≡ [] }
+    ensures first { IsJudged bound.value (declarations_demands 0 list.now []) result }
+    ensures intervals { OnOk result (intervals.new ≡ intervals.old ++ node_intervals (declarations_demands 0 list.now [])) }
+    ensures ranges { OnOk result (Mirrors table.new (with_all_declared 0 list.now [])) }
+{
+    for d in list {
+        declaration(alloc, d, table, bound, intervals)?;
+    }
+    Ok(())
+}
+
+/// Judges a declaration, and puts its name into the table.
+fn declaration(
+    alloc: Global,
+    d: &Declaration,
+    table: &mut RangeTable,
+    bound: Bound,
+    intervals: &mut Items<Interval>,
+) -> Result<(), RangeFault>
+    ensures first { (k : ℕ) (scope : Scope)
+        → Mirrors table.old scope
+        → IsJudged bound.value (declaration_demands k d.now scope) result }
+    ensures intervals { (k : ℕ) (scope : Scope)
+        → Mirrors table.old scope
+        → OnOk result (intervals.new ≡ intervals.old ++ node_intervals (declaration_demands k d.now scope)) }
+    ensures ranges { (k : ℕ) (scope : Scope)
+        → Mirrors table.old scope
+        → OnOk result (Mirrors table.new (with_declared k d.now scope)) }
+{
+    match d {
+        Declaration::Var { name, range, line } => {
+            variable(alloc, name, *range, *line, table, bound)
+        }
+        Declaration::Array {
+            name,
+            range,
+            line,
+            ..
+        } => variable(alloc, name, *range, *line, table, bound),
+        Declaration::Proc {
+            name,
+            params: own,
+            locals: inner,
+            body,
+            ..
+        } => {
+            procedure(
+                alloc,
+                own.as_slice(),
+                inner.as_slice(),
+                body.as_slice(),
+                table,
+                bound,
+                intervals,
+            )?;
+            table.declare(alloc, name.bytes.as_slice(), EMPTY)?;
+            Ok(())
+        }
+    }
+}
+
+/// Judges parameters, locals and a body. The table is then as it was before.
+fn procedure(
+    alloc: Global,
+    own: &[Param],
+    inner: &[Local],
+    body: &[Statement],
+    table: &mut RangeTable,
+    bound: Bound,
+    intervals: &mut Items<Interval>,
+) -> Result<(), RangeFault>
+    ensures first { (k : ℕ) (scope : Scope)
+        → Mirrors table.old scope
+        → IsJudged bound.value (procedure_demands k own.now inner.now body.now scope) result }
+    ensures intervals { (k : ℕ) (scope : Scope)
+        → Mirrors table.old scope
+        → OnOk result (intervals.new ≡ intervals.old ++ node_intervals (procedure_demands k own.now inner.now body.now scope)) }
+    ensures table { OnOk result (table.new ≡ table.old) }
+{
+    let outside = table.len();
+    params(alloc, own, table, bound)?;
+    locals(alloc, inner, table, bound)?;
+    statements(body, table, bound, intervals)?;
+    table.truncate(outside);
+    Ok(())
+}
+
+/// Judges the ranges of parameters, and puts their names into the table.
+fn params(
+    alloc: Global,
+    list: &[Param],
+    table: &mut RangeTable,
+    bound: Bound,
+) -> Result<(), RangeFault>
+    ensures first { IsJudged bound.value (params_demands list.now) result }
+    ensures ranges { OnOk result ((k : ℕ) (scope : Scope)
+        → Mirrors table.old scope
+        → Mirrors table.new (with_params k list.now scope)) }
+    ensures others { OnOk result (Extends table.old table.new) }
+{
+    for p in list {
+        variable(alloc, &p.name, p.range, p.name.line, table, bound)?;
+    }
+    Ok(())
+}
+
+/// Judges the ranges of locals, and puts their names into the table.
+fn locals(
+    alloc: Global,
+    list: &[Local],
+    table: &mut RangeTable,
+    bound: Bound,
+) -> Result<(), RangeFault>
+    ensures first { IsJudged bound.value (locals_demands list.now) result }
+    ensures ranges { OnOk result ((k : ℕ) (scope : Scope)
+        → Mirrors table.old scope
+        → Mirrors table.new (with_locals k list.now scope)) }
+    ensures others { OnOk result (Extends table.old table.new) }
+{
+    for l in list {
+        variable(alloc, &l.name, l.range, l.name.line, table, bound)?;
+    }
+    Ok(())
+}
+
+/// Judges a declared range, and puts its name into the table.
+fn variable(
+    alloc: Global,
+    name: &Name,
+    range: Range,
+    line: u32,
+    table: &mut RangeTable,
+    bound: Bound,
+) -> Result<(), RangeFault>
+    ensures first { IsJudged bound.value (declared range line ∷ []) result }
+    ensures ranges { OnOk result ((x : List ℕ) → lookup x table.new ≡ lookup x (table.old ++ (name.now.bytes, range) ∷ [])) }
+    ensures others { OnOk result (Extends table.old table.new) }
+{
+    require(Interval::of_range(range), line, bound)?;
+    table.declare(alloc, name.bytes.as_slice(), range)?;
+    Ok(())
+}
