@@ -14,7 +14,7 @@ at_end (suc place) (suc end) less = elim (at_end place end (omega (arith, less))
   | inr same ↦ inr (ap (λ (n : ℕ). suc n) same)
 ]
 
-in_order : (place other : ℕ) → (place < other) ⊎ ((place ≡ other) ⊎ (other < place))
+pub in_order : (place other : ℕ) → (place < other) ⊎ ((place ≡ other) ⊎ (other < place))
 in_order zero zero = inr (inl refl)
 in_order zero (suc other) = inl (omega arith)
 in_order (suc place) zero = inr (inr (omega arith))
@@ -24,7 +24,7 @@ in_order (suc place) (suc other) = elim (in_order place other) [
   | inr (inr more) ↦ inr (inr (omega (arith, more)))
 ]
 
-shorter : (kinds : List TokenKind) (place later : ℕ) → place ≤ later → take place (take later kinds) ≡ take place kinds
+pub shorter : (kinds : List TokenKind) (place later : ℕ) → place ≤ later → take place (take later kinds) ≡ take place kinds
 shorter [] zero later less = refl
 shorter [] (suc place) zero less = refl
 shorter [] (suc place) (suc later) less = refl
@@ -36,16 +36,16 @@ parted : (kinds : List TokenKind) (place later : ℕ) → place ≤ later → ta
 parted kinds place later less =
     ap (λ (ks : List TokenKind). ks ++ drop place (take later kinds)) (sym (shorter kinds place later less)) ∙ take-append-drop place (take later kinds)
 
-pub prefix_before : {kinds : List TokenKind} (place later : ℕ) → place ≤ later → IsPrefix (take later kinds) → IsPrefix (take place kinds)
-prefix_before {kinds} place later less h =
+pub prefix_before : (kinds : List TokenKind) (place later : ℕ) → place ≤ later → IsPrefix (take later kinds) → IsPrefix (take place kinds)
+prefix_before kinds place later less h =
     let middle = drop place (take later kinds) in
     record {
       rest = middle ++ h.rest;
       program = subst IsProgram (ap (λ (ks : List TokenKind). ks ++ h.rest) (sym (parted kinds place later less)) ∙ append_assoc (take place kinds) middle h.rest) h.program
     }
 
-pub within_before : {depth width : ℕ} {kinds : List TokenKind} (place later : ℕ) → place ≤ later → IsPrefixWithin depth width (take later kinds) → IsPrefixWithin depth width (take place kinds)
-within_before {depth} {width} {kinds} place later less h =
+pub within_before : {depth width : ℕ} (kinds : List TokenKind) (place later : ℕ) → place ≤ later → IsPrefixWithin depth width (take later kinds) → IsPrefixWithin depth width (take place kinds)
+within_before {depth} {width} kinds place later less h =
     let middle = drop place (take later kinds) in
     record {
       rest = middle ++ h.rest;
@@ -77,10 +77,10 @@ deep_no_program {place = place} h spells = h.deep (program_within (suc place) sp
 -- a place that is within the limits up to and with its kind is before any fault
 module _ {depth width : ℕ} {kinds : List TokenKind} where
   pub no_earlier_stop : (place other : ℕ) → place < other → StopsAt depth width kinds place → IsPrefix (take other kinds) → other ≤ length kinds → ⊥
-  no_earlier_stop place other less h prefix within = h.stops (omega (arith, less, within)) (prefix_before (suc place) other (omega (arith, less)) prefix)
+  no_earlier_stop place other less h prefix within = h.stops (omega (arith, less, within)) (prefix_before kinds (suc place) other (omega (arith, less)) prefix)
 
   pub no_earlier_deep : (place other : ℕ) → place < other → DeepAt depth width kinds place → IsPrefixWithin depth width (take other kinds) → ⊥
-  no_earlier_deep place other less h within = h.deep (within_before (suc place) other (omega (arith, less)) within)
+  no_earlier_deep place other less h within = h.deep (within_before kinds (suc place) other (omega (arith, less)) within)
 
   pub one_stop : (place other : ℕ) → StopsAt depth width kinds place → StopsAt depth width kinds other → place ≡ other
   one_stop place other h k = elim (in_order place other) [

@@ -74,15 +74,15 @@ listed_of width s d w terminals f =
     let all = f.behind.reads terminals f.reads.tree f.reads.reads in
     record { rest = f.behind.rest; reads = record { tree = all.tree; reads = things all.reads }; behind = f.behind.behind }
 
-step_term : (width : ℕ) (k : TokenKind) (s : List Want) (d w : ℕ) → step width k (factor ∷ term_tail ∷ s) d w ≡ step width k (term ∷ s) d w
+pub step_term : (width : ℕ) (k : TokenKind) (s : List Want) (d w : ℕ) → step width k (factor ∷ term_tail ∷ s) d w ≡ step width k (term ∷ s) d w
 step_term width kind.Number s d w = refl
 step_term width k s d w = refl
 
-step_sum : (width : ℕ) (k : TokenKind) (s : List Want) (d w : ℕ) → step width k (term ∷ sum_tail ∷ s) d w ≡ step width k (sum ∷ s) d w
+pub step_sum : (width : ℕ) (k : TokenKind) (s : List Want) (d w : ℕ) → step width k (term ∷ sum_tail ∷ s) d w ≡ step width k (sum ∷ s) d w
 step_sum width kind.Number s d w = refl
 step_sum width k s d w = refl
 
-step_outermost : (width : ℕ) (k : TokenKind) (s : List Want) (d w : ℕ) → step width k (sum ∷ fresh ∷ s) d width ≡ step width k (outermost ∷ s) d w
+pub step_outermost : (width : ℕ) (k : TokenKind) (s : List Want) (d w : ℕ) → step width k (sum ∷ fresh ∷ s) d width ≡ step width k (outermost ∷ s) d w
 step_outermost width kind.Number s d w = refl
 step_outermost width k s d w = refl
 

@@ -1,5 +1,8 @@
 pub mod Backward
 pub mod Completions
+pub mod CountClasses
+pub mod CountLemmas
+pub mod CountSteps
 pub mod Forward
 pub mod KindNumbers
 pub mod AnswerLaws

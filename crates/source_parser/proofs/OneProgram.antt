@@ -25,7 +25,7 @@ use Rattle.source_parser.proofs.OneExpression.{Ends, one_expression}
 
 -- from the same terminals one thing is read, where what follows it is of this sort
 abbrev IsOne : {A : Type 0} → (List Terminal → A → List Terminal → Type 0) → (List Terminal → Type 0) → Type 0
-IsOne Reads Follows = {terminals r s : List Terminal} {a b : _} → Reads terminals a r → Reads terminals b s → Follows r → Follows s → (a ≡ b) × (r ≡ s)
+IsOne Reads Follows = (terminals r s : List Terminal) (a b : _) → Reads terminals a r → Reads terminals b s → Follows r → Follows s → (a ≡ b) × (r ≡ s)
 
 -- ---- expressions, conditions and places
 one_outermost : {width : ℕ} {terminals r s : List Terminal} {a b : Expr} → ReadsOutermost width terminals a r → ReadsOutermost width terminals b s → Ends g.sum r → Ends g.sum s → (a ≡ b) × (r ≡ s)
@@ -88,13 +88,13 @@ module _ {A : Type 0} (Reads : List Terminal → A → List Terminal → Type 0)
   one_commas : IsOne Reads Follows → ((line : ℕ) (rest : List Terminal) → Follows (fixed kind.RightParen line ∷ rest)) → ((line : ℕ) (rest : List Terminal) → Follows (fixed kind.Comma line ∷ rest))
       → {terminals r s : List Terminal} {a b : List A} → ReadsCommas Reads terminals a r → ReadsCommas Reads terminals b s → (a ≡ b) × (r ≡ s)
   one_commas one close sign (last first) (last second) =
-      let same = one first second (close _ _) (close _ _) in
+      let same = one _ _ _ _ _ first second (close _ _) (close _ _) in
       let ends = same.1 in
       (ap (λ (x : A). x ∷ []) same.0, cc)
-  one_commas one close sign (last first) (comma second more) = let same = one first second (close _ _) (sign _ _) in let ends = same.1 in absurd cc
-  one_commas one close sign (comma first more) (last second) = let same = one first second (sign _ _) (close _ _) in let ends = same.1 in absurd cc
+  one_commas one close sign (last first) (comma second more) = let same = one _ _ _ _ _ first second (close _ _) (sign _ _) in let ends = same.1 in absurd cc
+  one_commas one close sign (comma first more) (last second) = let same = one _ _ _ _ _ first second (sign _ _) (close _ _) in let ends = same.1 in absurd cc
   one_commas one close sign (comma {behind = behind} {first = x} {more = xs} first more) (comma {behind = behind'} {rest = rest'} {first = y} {more = ys} second more') =
-      let same = one first second (sign _ _) (sign _ _) in
+      let same = one _ _ _ _ _ first second (sign _ _) (sign _ _) in
       let ends = same.1 in
       let same_behind : behind' ≡ behind = cc in
       let others = one_commas one close sign more (subst (λ (ts : List Terminal). ReadsCommas Reads ts ys rest') same_behind more') in
@@ -114,20 +114,20 @@ module _ {A : Type 0} (Reads : List Terminal → A → List Terminal → Type 0)
   one_listed one close sign begins (things first) nothing = let second = first_reads first in absurd (begins _ _ _ _ second.2)
   one_listed one close sign begins (things first) (things second) = one_commas one close sign first second
 
-  one_all : IsOne Reads Follows → ({terminals rest : List Terminal} {x : A} → Reads terminals x rest → Follows rest) → (Ends' : List Terminal → Type 0)
-      → ({terminals rest : List Terminal} {x : A} → Reads terminals x rest → Ends' terminals → ⊥)
+  one_all : IsOne Reads Follows → ((terminals rest : List Terminal) (x : A) → Reads terminals x rest → Follows rest) → (Ends' : List Terminal → Type 0)
+      → ((terminals rest : List Terminal) (x : A) → Reads terminals x rest → Ends' terminals → ⊥)
       → {terminals r s : List Terminal} {a b : List A} → ReadsAll Reads terminals a r → ReadsAll Reads terminals b s → Ends' r → Ends' s → (a ≡ b) × (r ≡ s)
   one_all one follows Ends' begins none none h k = (refl, refl)
-  one_all one follows Ends' begins none (and_more second more) h k = absurd (begins second h)
-  one_all one follows Ends' begins (and_more first more) none h k = absurd (begins first k)
+  one_all one follows Ends' begins none (and_more second more) h k = absurd (begins _ _ _ second h)
+  one_all one follows Ends' begins (and_more first more) none h k = absurd (begins _ _ _ first k)
   one_all one follows Ends' begins (and_more {behind = behind} first more) (and_more {behind = behind'} {rest = rest'} {more = ys} second more') h k =
-      let same = one first second (follows first) (follows second) in
+      let same = one _ _ _ _ _ first second (follows _ _ _ first) (follows _ _ _ second) in
       let others = one_all one follows Ends' begins more (subst (λ (ts : List Terminal). ReadsAll Reads ts ys rest') (sym same.1) more') h k in
       let same_first = same.0 in
       let same_more = others.0 in
       (cc, others.1)
 
-Anything : List Terminal → Type 0
+abbrev Anything : List Terminal → Type 0
 Anything terminals = Unit {0}
 
 expr_no_paren : {level : g.Level} {line : ℕ} {terminals rest : List Terminal} {e : Expr} → ReadsExpr level (fixed kind.RightParen line ∷ terminals) e rest → ⊥
@@ -138,7 +138,7 @@ expr_no_paren (g.added left joins right) = expr_no_paren left
 
 one_arguments : {width : ℕ} {terminals r s : List Terminal} {a b : List Expr} → ReadsListed (ReadsOutermost width) terminals a r → ReadsListed (ReadsOutermost width) terminals b s → (a ≡ b) × (r ≡ s)
 one_arguments {width} first second =
-    one_listed (ReadsOutermost width) (Ends g.sum) one_outermost (λ line rest. refl) (λ line rest. refl) (λ line terminals rest x h. expr_no_paren h.reads) first second
+    one_listed (ReadsOutermost width) (Ends g.sum) (λ terminals r s a b. one_outermost) (λ line rest. refl) (λ line rest. refl) (λ line terminals rest x h. expr_no_paren h.reads) first second
 
 -- ---- statements
 -- neither `else`, nor a statement
@@ -173,7 +173,7 @@ else_closes (other second) = tt
 
 mutual
   one_statement : {width depth : ℕ} {terminals r s : List Terminal} {a b : Statement} → ReadsStatement width depth terminals a r → ReadsStatement width depth terminals b s → (a ≡ b) × (r ≡ s)
-  one_statement {width} (assign {behind = behind} {terminals = terminals} {target = target} {value = value} place first) (assign {behind = behind'} {rest = rest'} {target = target'} {value = value'} place' second) =
+  one_statement {width} (assign {terminals = terminals} {behind = behind} {target = target} {value = value} place first) (assign {behind = behind'} {rest = rest'} {target = target'} {value = value'} place' second) =
       let same = one_place place place' tt tt in
       let ends = same.1 in
       let same_behind : behind' ≡ behind = cc in
@@ -202,7 +202,7 @@ mutual
       let same = one_place place other tt tt in
       let ends = same.1 in
       (ap (λ (p : Place). Read p line) same.0, cc)
-  one_statement {width} {suc depth} (if_statement {behind = behind} {further = further} {condition = c} {first = xs} {second = ys} test first second)
+  one_statement {width = width} {depth = suc depth} (if_statement {behind = behind} {further = further} {condition = c} {first = xs} {second = ys} test first second)
       (if_statement {behind = behind'} {further = further'} {rest = rest'} {condition = c'} {first = xs'} {second = ys'} test' first' second') =
       let tests = one_condition test test' refl refl in
       let then = tests.1 in
@@ -215,7 +215,7 @@ mutual
       let same_first = firsts.0 in
       let same_second = seconds.0 in
       (cc, cc)
-  one_statement {width} {suc depth} (for_statement {behind = behind} {further = further} from to body)
+  one_statement {width = width} {depth = suc depth} (for_statement {behind = behind} {further = further} from to body)
       (for_statement {behind = behind'} {further = further'} {rest = rest'} {to = b'} {body = xs'} from' to' body') =
       let froms = one_outermost from from' refl refl in
       let first_end = froms.1 in
@@ -229,7 +229,7 @@ mutual
       let same_to = tos.0 in
       let same_body = bodies.0 in
       (cc, cc)
-  one_statement {width} {suc depth} (while_statement {behind = behind} {limit = limit} test body) (while_statement {behind = behind'} {rest = rest'} {limit = limit'} {body = xs'} test' body') =
+  one_statement {width = width} {depth = suc depth} (while_statement {behind = behind} {limit = limit} test body) (while_statement {behind = behind'} {rest = rest'} {limit = limit'} {body = xs'} test' body') =
       let tests = one_condition test test' refl refl in
       let ends = tests.1 in
       let same_limit : limit ≡ limit' = cc in
@@ -279,11 +279,10 @@ one_param : {terminals r s : List Terminal} {a b : Param} → ReadsParam termina
 one_param (param range) (param range') = let same = one_range range range' in let same_range = same.0 in (cc, same.1)
 
 one_local : {terminals r s : List Terminal} {a b : Local} → ReadsLocal terminals a r → ReadsLocal terminals b s → (a ≡ b) × (r ≡ s)
-one_local (g.local first) (g.local second) =
+one_local (g.local {line = line} first) (g.local second) =
     let same = one_param first second in
     let ends = same.1 in
-    let same_param = same.0 in
-    (cc, cc)
+    (ap (λ (p : Param). record { name = p.name; range = p.range; line = line }) same.0, cc)
 
 -- not a local
 abbrev NoLocal : List Terminal → Type 0
@@ -300,20 +299,19 @@ param_no_paren : {line : ℕ} {terminals rest : List Terminal} {x : Param} → R
 param_no_paren h = no_paren h refl
 
 one_declaration : {depth width : ℕ} {terminals r s : List Terminal} {a b : Declaration} → ReadsDeclaration depth width terminals a r → ReadsDeclaration depth width terminals b s → (a ≡ b) × (r ≡ s)
-one_declaration (var first) (var second) =
+one_declaration (var {line = line} first) (var second) =
     let same = one_param first second in
     let ends = same.1 in
-    let same_param = same.0 in
-    (cc, cc)
+    (ap (λ (p : Param). Var p.name p.range line) same.0, cc)
 one_declaration (array first) (array second) =
     let same = one_range first second in
     let ends = same.1 in
     let same_range = same.0 in
     (cc, cc)
 one_declaration {depth} {width} (proc {behind = behind} {further = further} params locals body) (proc {behind = behind'} {further = further'} {rest = rest'} {locals = ls'} {body = xs'} params' locals' body') =
-    let all = one_listed ReadsParam Anything (λ first second h k. one_param first second) (λ line rest. tt) (λ line rest. tt) (λ line terminals rest x h. param_no_paren h) params params' in
+    let all = one_listed ReadsParam Anything (λ terminals r s a b first second h k. one_param first second) (λ line rest. tt) (λ line rest. tt) (λ line terminals rest x h. param_no_paren h) params params' in
     let same_behind = all.1 in
-    let inner = one_all ReadsLocal Anything (λ first second h k. one_local first second) (λ h. tt) NoLocal local_begins locals
+    let inner = one_all ReadsLocal Anything (λ terminals r s a b first second h k. one_local first second) (λ terminals rest x h. tt) NoLocal (λ terminals rest x. local_begins) locals
       (subst (λ (ts : List Terminal). ReadsAll ReadsLocal ts ls' _) (sym same_behind) locals') tt tt in
     let do_ = inner.1 in
     let same_further : further' ≡ further = cc in
@@ -350,7 +348,7 @@ statements_begin (statements (call a) more) = tt
 -- ---- programs
 pub one_program : {depth width : ℕ} {terminals : List Terminal} {a b : Program} → Spells depth width terminals a → Spells depth width terminals b → b ≡ a
 one_program {depth} {width} {terminals} {a} {b} first second =
-    let all = one_all (ReadsDeclaration depth width) Anything (λ x y h k. one_declaration x y) (λ h. tt) NoDeclaration declaration_begins first.declarations second.declarations
+    let all = one_all (ReadsDeclaration depth width) Anything (λ terminals r s a b x y h k. one_declaration x y) (λ terminals rest x h. tt) NoDeclaration (λ terminals rest x. declaration_begins) first.declarations second.declarations
       (statements_begin first.statements) (statements_begin second.statements) in
     let bodies = one_list first.statements (subst (λ (ts : List Terminal). ReadsStatements width depth ts b.statements []) (sym all.1) second.statements) tt tt in
     let same_declarations = all.0 in

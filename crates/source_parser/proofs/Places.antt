@@ -12,21 +12,21 @@ use Rattle.source_parser.proofs.Backward.{Backs, back}
 use Rattle.source_parser.proofs.WiderLimits.{Alike, alike, Grown, grown}
 
 -- what a move leads to
-abbrev Goes : ℕ → TokenKind → List TokenKind → Move → Outcome
+abbrev pub Goes : ℕ → TokenKind → List TokenKind → Move → Outcome
 Goes width k ks stuck = stopped (k ∷ ks)
 Goes width k ks deep = too_deep (k ∷ ks)
 Goes width k ks (on s d w) = run width ks s d w
 
 -- After some kinds so much is wanted. Then what fits behind them fits with them, also where each limit is one more; and
 -- within any limits they lead to the same wants.
-record Reached (width : ℕ) (s : List Want) (d w : ℕ) (before : List TokenKind) (wants : List Want) (depth spare : ℕ) : Type 0 where
-  moves : (more : List TokenKind) → run width (before ++ more) s d w ≡ run width more wants depth spare
-  fits : (more : List TokenKind) → Fits width wants depth spare (plains more) → Fits width s d w (plains (before ++ more))
-  wider : (more : List TokenKind) → Fits (suc width) wants (suc depth) (suc spare) (plains more) → Fits (suc width) s (suc d) (suc w) (plains (before ++ more))
-  shape : (width' d' w' : ℕ) (more : List TokenKind) → run width' (before ++ more) s d' w' ≡ spelled
+pub record Reached (width : ℕ) (s : List Want) (d w : ℕ) (before : List TokenKind) (wants : List Want) (depth spare : ℕ) : Type 0 where
+  pub moves : (more : List TokenKind) → run width (before ++ more) s d w ≡ run width more wants depth spare
+  pub fits : (more : List TokenKind) → Fits width wants depth spare (plains more) → Fits width s d w (plains (before ++ more))
+  pub wider : (more : List TokenKind) → Fits (suc width) wants (suc depth) (suc spare) (plains more) → Fits (suc width) s (suc d) (suc w) (plains (before ++ more))
+  pub shape : (width' d' w' : ℕ) (more : List TokenKind) → run width' (before ++ more) s d' w' ≡ spelled
       → (d'' : ℕ) × (w'' : ℕ) × (run width' more wants d'' w'' ≡ spelled)
 
-at_once : (width : ℕ) (s : List Want) (d w : ℕ) → Reached width s d w [] s d w
+pub at_once : (width : ℕ) (s : List Want) (d w : ℕ) → Reached width s d w [] s d w
 at_once width s d w = record { moves = λ more. refl; fits = λ more f. f; wider = λ more f. f; shape = λ width' d' w' more h. (d', w', h) }
 
 shape_on : (width' : ℕ) (k : TokenKind) (ks : List TokenKind) (s : List Want) (d w : ℕ) (m : Move) → Alike (on s d w) m → Goes width' k ks m ≡ spelled
@@ -36,7 +36,7 @@ shape_on width' k ks s d w deep h e = absurd cc
 shape_on width' k ks s d w (on s' d' w') h e = (d', w', rw h e)
 
 -- one kind more in prefix
-one_more : (width : ℕ) (s : List Want) (d w : ℕ) (k : TokenKind) (s' : List Want) (d' w' : ℕ) (before : List TokenKind) (wants : List Want) (depth spare : ℕ)
+pub one_more : (width : ℕ) (s : List Want) (d w : ℕ) (k : TokenKind) (s' : List Want) (d' w' : ℕ) (before : List TokenKind) (wants : List Want) (depth spare : ℕ)
     → step width k s d w ≡ on s' d' w' → Reached width s' d' w' before wants depth spare → Reached width s d w (k ∷ before) wants depth spare
 one_more width s d w k s' d' w' before wants depth spare e r =
     let larger : step (suc width) k s (suc d) (suc w) ≡ on s' (suc d') (suc w')
@@ -171,7 +171,7 @@ program_of width depth w ks f = record {
 }
 
 -- kinds of a program are all wanted
-runs : {depth width : ℕ} {ks : List TokenKind} → SpellsKinds depth width ks → run width ks (declarations ∷ statements ∷ []) depth width ≡ spelled
+pub runs : {depth width : ℕ} {ks : List TokenKind} → SpellsKinds depth width ks → run width ks (declarations ∷ statements ∷ []) depth width ≡ spelled
 runs {depth} {width} {ks} p = subst (λ (xs : List TokenKind). run width xs (declarations ∷ statements ∷ []) depth width ≡ spelled) p.same (reads_program width p.spells)
 
 take_before : (before rest : List TokenKind) → take (length before) (before ++ rest) ≡ before
@@ -187,7 +187,7 @@ before_place before rest = let h = length-append before rest in omega (arith, h)
 
 -- ---- the two faults
 module _ (depth width : ℕ) where
-  within : (before : List TokenKind) (wants : List Want) (d w : ℕ) → Reached width (declarations ∷ statements ∷ []) depth width before wants d w → IsPrefixWithin depth width before
+  pub within : (before : List TokenKind) (wants : List Want) (d w : ℕ) → Reached width (declarations ∷ statements ∷ []) depth width before wants d w → IsPrefixWithin depth width before
   within before wants d w r =
       let more = completes width wants d w in
       record { rest = more.0; spells = program_of width depth width (before ++ more.0) (r.fits more.0 more.1) }

@@ -218,7 +218,7 @@ block_too_deep {want = want} {old = old} {w = w} stands over own same =
 
 -- a block that was opened and closed
 pub block_read : {A : Type 0} {want : Want} {old new : List Terminal} {d w : ℕ} {found : A} → 0 < d
-    → Leads (want ∷ []) old d w (want ∷ []) new (d - 1 + 1) w → LandsNext want old d w (Ok (Some found)) new
+    → Leads (want ∷ []) old d w (want ∷ []) new (suc (d - 1)) w → LandsNext want old d w (Ok (Some found)) new
 block_read {d = d} some way =
-    let same : d - 1 + 1 ≡ d = omega (arith, some) in
+    let same : suc (d - 1) ≡ d = omega (arith, some) in
     reads_one (rw same at way)

@@ -14,5 +14,5 @@ mod reader;
 mod statement;
 
 pub use fault::ParseFault;
-pub use laws::one_answer_fits;
+pub use laws::{deep_is_the_first_over_a_limit, one_answer_fits};
 pub use program::parse;

@@ -1,4 +1,4 @@
-ghost use Rattle.std.specs.Prelude.{ℕ, ◌+◌, ◌++◌, ◌≤◌, ◌∷◌, [], IfOk, length};
+ghost use Rattle.std.specs.Prelude.{ℕ, suc, ◌++◌, ◌≤◌, ◌∷◌, [], IfOk, length};
 ghost use Rattle.source_lexer.specs.declared.token.TokenKind.TheVariants.{Becomes as BecomesToken, Do as DoToken, End as EndToken, For as ForToken, If as IfToken, Limit as LimitToken, Name as NameToken, Number as NumberToken, Print as PrintToken, Read as ReadToken, Semicolon as SemicolonToken, Then as ThenToken, To as ToToken, While as WhileToken};
 ghost use Rattle.source_parser.specs.Limits.{weight_limit};
 ghost use Rattle.source_parser.specs.Grammar.{ReadsCondition, ReadsElse, ReadsListed, ReadsOutermost, ReadsPlace, ReadsStatement, ReadsStatements};
@@ -74,8 +74,8 @@ fn if_statement(
     depth: usize,
     line: u32,
 ) -> Result<Statement, Fault>
-    ensures value { IfOk result (λ found. ReadsStatement weight_limit (depth + 1) (fixed IfToken line ∷ reader.old) found reader.new) }
-    ensures lands { Lands (if_wanted) reader.old depth weight_limit result reader.new (depth + 1) weight_limit }
+    ensures value { IfOk result (λ found. ReadsStatement weight_limit (suc depth) (fixed IfToken line ∷ reader.old) found reader.new) }
+    ensures lands { Lands (if_wanted) reader.old depth weight_limit result reader.new (suc depth) weight_limit }
     ensures shorter { Consumes reader.old result reader.new }
 {
     let condition = if_condition(alloc, reader)?;
@@ -96,7 +96,7 @@ fn branches(
     depth: usize,
 ) -> Result<(Items<Statement>, Items<Statement>), Fault>
     ensures value { IfOk result (λ found. ReadsBranches weight_limit depth reader.old found reader.new) }
-    ensures lands { Lands (wants_statements ∷ otherwise ∷ close ∷ []) reader.old depth weight_limit result reader.new (depth + 1) weight_limit }
+    ensures lands { Lands (wants_statements ∷ otherwise ∷ close ∷ []) reader.old depth weight_limit result reader.new (suc depth) weight_limit }
     ensures shorter { Consumes reader.old result reader.new }
 {
     let first = statements(alloc, reader, depth)?;
@@ -112,7 +112,7 @@ fn else_part(
     depth: usize,
 ) -> Result<Items<Statement>, Fault>
     ensures value { IfOk result (λ found. Closed (ReadsElse weight_limit depth) EndToken reader.old found reader.new) }
-    ensures lands { Lands (otherwise ∷ close ∷ []) reader.old depth weight_limit result reader.new (depth + 1) weight_limit }
+    ensures lands { Lands (otherwise ∷ close ∷ []) reader.old depth weight_limit result reader.new (suc depth) weight_limit }
     ensures shorter { Consumes reader.old result reader.new }
 {
     if reader.take(TokenKind::Else).is_none() {
@@ -126,7 +126,7 @@ fn else_part(
 #[cycle(statement)]
 fn body(alloc: Global, reader: &mut Reader<'_>, depth: usize) -> Result<Items<Statement>, Fault>
     ensures value { IfOk result (λ found. Closed (ReadsStatements weight_limit depth) EndToken reader.old found reader.new) }
-    ensures lands { Lands (wants_statements ∷ close ∷ []) reader.old depth weight_limit result reader.new (depth + 1) weight_limit }
+    ensures lands { Lands (wants_statements ∷ close ∷ []) reader.old depth weight_limit result reader.new (suc depth) weight_limit }
     ensures shorter { Consumes reader.old result reader.new }
 {
     let found = statements(alloc, reader, depth)?;
@@ -142,8 +142,8 @@ fn for_statement(
     depth: usize,
     line: u32,
 ) -> Result<Statement, Fault>
-    ensures value { IfOk result (λ found. ReadsStatement weight_limit (depth + 1) (fixed ForToken line ∷ reader.old) found reader.new) }
-    ensures lands { Lands (for_wanted) reader.old depth weight_limit result reader.new (depth + 1) weight_limit }
+    ensures value { IfOk result (λ found. ReadsStatement weight_limit (suc depth) (fixed ForToken line ∷ reader.old) found reader.new) }
+    ensures lands { Lands (for_wanted) reader.old depth weight_limit result reader.new (suc depth) weight_limit }
     ensures shorter { Consumes reader.old result reader.new }
 {
     let name = counter(alloc, reader)?;
@@ -166,8 +166,8 @@ fn while_statement(
     depth: usize,
     line: u32,
 ) -> Result<Statement, Fault>
-    ensures value { IfOk result (λ found. ReadsStatement weight_limit (depth + 1) (fixed WhileToken line ∷ reader.old) found reader.new) }
-    ensures lands { Lands (while_wanted) reader.old depth weight_limit result reader.new (depth + 1) weight_limit }
+    ensures value { IfOk result (λ found. ReadsStatement weight_limit (suc depth) (fixed WhileToken line ∷ reader.old) found reader.new) }
+    ensures lands { Lands (while_wanted) reader.old depth weight_limit result reader.new (suc depth) weight_limit }
     ensures shorter { Consumes reader.old result reader.new }
 {
     let condition = limited_condition(alloc, reader)?;

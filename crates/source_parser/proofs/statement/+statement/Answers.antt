@@ -1,4 +1,4 @@
-use Rattle.std.proofs.Common.{◌≡◌, ℕ, ◌+◌, ◌-◌, ◌<◌, List, [], ◌∷◌, ◌++◌, Result, Ok, Err, refl, sym, subst, ◌∙◌, arith, rules}
+use Rattle.std.proofs.Common.{◌≡◌, ℕ, suc, ◌-◌, ◌<◌, List, [], ◌∷◌, ◌++◌, Result, Ok, Err, refl, sym, subst, ◌∙◌, arith, rules}
 use Rattle.std.specs.Prelude.{IfOk}
 use Rattle.std.specs.Int.{w128}
 use Rattle.std.proofs.lemmas.Int.{to_z-of_z}
@@ -58,10 +58,10 @@ branches-returns-clause-lands t c = reads (and_then _ c.in_ok-second.ensures.lan
 else_none : {depth line : ℕ} {old new : List Terminal} → old ≡ fixed kind.End line ∷ new → Closed (ReadsElse weight_limit depth) kind.End old [] new
 else_none {line = line} end = record { line = line; reads = rw end grammar.no_else }
 
-else_reads : {depth line : ℕ} {old now : List Terminal} (new : List Terminal) (result : Result (List Statement) Fault) → old ≡ fixed kind.Else line ∷ now
+else_reads : (depth : ℕ) {line : ℕ} {old now : List Terminal} (new : List Terminal) (result : Result (List Statement) Fault) → old ≡ fixed kind.Else line ∷ now
     → IfOk result (λ found. Closed (ReadsStatements weight_limit depth) kind.End now found new) → IfOk result (λ found. Closed (ReadsElse weight_limit depth) kind.End old found new)
-else_reads new (Ok found) begins body = record { line = body.line; reads = rw begins (grammar.other body.reads) }
-else_reads new (Err fault) begins body = tt
+else_reads depth new (Ok found) begins body = record { line = body.line; reads = rw begins (grammar.other body.reads) }
+else_reads depth new (Err fault) begins body = tt
 
 pub else_part-returns-in_err-expect-clause-lands : goal.else_part-returns-in_err-expect-clause-lands
 else_part-returns-in_err-expect-clause-lands t c =
@@ -83,12 +83,12 @@ else_part-returns-then-is_none-clause-lands t c =
 pub else_part-returns-clause-value : goal.else_part-returns-clause-value
 else_part-returns-clause-value t c =
     let begins = taken kind.Else c.args.reader.now c.take.result c.take.new.self c.take.ensures.value (sym c.if-is_none.ensures) in
-    else_reads c.body.new.reader c.body.result begins.1 c.body.ensures.value
+    else_reads c.args.depth c.body.new.reader c.body.result begins.1 c.body.ensures.value
 
 pub else_part-returns-clause-lands : goal.else_part-returns-clause-lands
 else_part-returns-clause-lands t c =
     let begins = taken kind.Else c.args.reader.now c.take.result c.take.new.self c.take.ensures.value (sym c.if-is_none.ensures) in
-    ends_with c.body.ensures.lands (and_taken (wants.statements ∷ wants.close ∷ []) begins.1 (λ s ks. refl) at_start)
+    ends_with c.body.ensures.lands (and_taken (wants.statements ∷ []) begins.1 (λ s ks. refl) at_start)
 
 -- ---- statements and `end`
 pub body-returns-in_err-found-clause-lands : goal.body-returns-in_err-found-clause-lands
@@ -156,10 +156,10 @@ while_statement-returns-clause-lands t c =
 
 -- ---- a statement, by its first token
 nested : {depth : ℕ} {t : Terminal} {old behind new : List Terminal} {found : Statement} → 0 < depth → old ≡ t ∷ behind
-    → ReadsStatement weight_limit (depth - 1 + 1) (t ∷ behind) found new → ReadsStatement weight_limit depth old found new
-nested {depth = depth} some begins h =
-    let same : depth - 1 + 1 ≡ depth = omega (arith, some) in
-    rw begins (subst (λ (n : ℕ). ReadsStatement weight_limit n _ _ _) same h)
+    → ReadsStatement weight_limit (suc (depth - 1)) (t ∷ behind) found new → ReadsStatement weight_limit depth old found new
+nested {depth = depth} {t = t} {behind = behind} {new = new} {found = found} some begins h =
+    let same : suc (depth - 1) ≡ depth = omega (arith, some) in
+    rw begins (subst (λ (n : ℕ). ReadsStatement weight_limit n (t ∷ behind) found new) same h)
 
 pub statement-returns-in_err-print-clause-lands : goal.statement-returns-in_err-print-clause-lands
 statement-returns-in_err-print-clause-lands t c =
@@ -193,7 +193,7 @@ statement-returns-in-Some-take-clause-lands t c =
 pub statement-returns-in_err-line-clause-lands : goal.statement-returns-in_err-line-clause-lands
 statement-returns-in_err-line-clause-lands t c =
     let unread = c.in_default-take.ensures.value.0 ∙ c.in_default.ensures.value.0 in
-    block_too_deep c.in_err-line.ensures.value (λ s ks. refl) c.from_residual-in_err-line.ensures.1 unread
+    block_too_deep c.in_err-line.ensures.value (λ s ks. refl) c.from_residual-in_err-line.ensures.1 (unread)
 
 pub statement-returns-in_err-if_statement-clause-lands : goal.statement-returns-in_err-if_statement-clause-lands
 statement-returns-in_err-if_statement-clause-lands t c =
@@ -219,7 +219,7 @@ pub statement-returns-in_err-line-2-clause-lands : goal.statement-returns-in_err
 statement-returns-in_err-line-2-clause-lands t c =
     let unread = c.in_default-take.ensures.value.0 ∙ c.in_default.ensures.value.0 in
     let no_if = within_not_taken kind.If c.args.depth c.take-2.new.self c.in_ok-line.field-0 c.take_within.new.self c.in_ok-line.ensures.value c.in_default-2.is in
-    block_too_deep c.in_err-line-2.ensures.value (λ s ks. refl) c.from_residual-in_err-line-2.ensures.1 no_if.0 ∙ unread
+    block_too_deep c.in_err-line-2.ensures.value (λ s ks. refl) c.from_residual-in_err-line-2.ensures.1 (no_if.0 ∙ unread)
 
 pub statement-returns-in_err-for_statement-clause-lands : goal.statement-returns-in_err-for_statement-clause-lands
 statement-returns-in_err-for_statement-clause-lands t c =
@@ -249,7 +249,7 @@ statement-returns-in_err-line-3-clause-lands t c =
     let unread = c.in_default-take.ensures.value.0 ∙ c.in_default.ensures.value.0 in
     let no_if = within_not_taken kind.If c.args.depth c.take-2.new.self c.in_ok-line.field-0 c.take_within.new.self c.in_ok-line.ensures.value c.in_default-2.is in
     let no_for = within_not_taken kind.For c.args.depth c.take_within.new.self c.in_ok-line-2.field-0 c.take_within-2.new.self c.in_ok-line-2.ensures.value c.in_default-3.is in
-    block_too_deep c.in_err-line-3.ensures.value (λ s ks. refl) c.from_residual-in_err-line-3.ensures.1 no_for.0 ∙ no_if.0 ∙ unread
+    block_too_deep c.in_err-line-3.ensures.value (λ s ks. refl) c.from_residual-in_err-line-3.ensures.1 (no_for.0 ∙ no_if.0 ∙ unread)
 
 pub statement-returns-in_err-while_statement-clause-lands : goal.statement-returns-in_err-while_statement-clause-lands
 statement-returns-in_err-while_statement-clause-lands t c =
@@ -297,7 +297,7 @@ statement-returns-in_ok-assignment_or_call-in-Some-5-clause-value t c =
     let no_for = within_not_taken kind.For c.args.depth c.take_within.new.self c.in_ok-line-2.field-0 c.take_within-2.new.self c.in_ok-line-2.ensures.value c.in_default-3.is in
     let no_while = within_not_taken kind.While c.args.depth c.take_within-2.new.self c.in_ok-line-3.field-0 c.take_within-3.new.self c.in_ok-line-3.ensures.value c.in_default-4.is in
     let stands = identifier_taken c.take_within-3.new.self c.in_ok-name.field-0 c.take_name.new.self c.in-Some-5.name c.in_ok-name.ensures.value c.in-Some-5.is in
-    subst (λ (ts : List Terminal). ReadsStatement weight_limit c.args.depth ts _ _) (sym stands ∙ no_while.0 ∙ no_for.0 ∙ no_if.0 ∙ unread) (c.in_ok-assignment_or_call-in-Some-5.ensures.value c.args.depth)
+    subst (λ (ts : List Terminal). ReadsStatement weight_limit c.args.depth ts c.in_ok-assignment_or_call-in-Some-5.field-0 c.assignment_or_call.new.reader) (sym stands ∙ no_while.0 ∙ no_for.0 ∙ no_if.0 ∙ unread) (c.in_ok-assignment_or_call-in-Some-5.ensures.value c.args.depth)
 
 pub statement-returns-in_ok-assignment_or_call-in-Some-5-clause-lands : goal.statement-returns-in_ok-assignment_or_call-in-Some-5-clause-lands
 statement-returns-in_ok-assignment_or_call-in-Some-5-clause-lands t c =
