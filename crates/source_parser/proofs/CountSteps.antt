@@ -267,80 +267,80 @@ module _ (depth width : ℕ) where
       (agrees (leaves_token j c) h (token_placed j c x w (closes s) a l p) e (token_blocks j b (closes s) l f))
 
   -- ---- what is wanted first
-  to_out : {P : Standing → Type 0} (c : Class) (x : Standing) (w : ℕ) → Within c out → Placed width c x w → P outside → P x
-  to_out out outside w a p h = h
-  to_out out x w a p h = absurd p
-  to_out c x w a p h = absurd a
+  to_out : (P : Standing → Type 0) (c : Class) (x : Standing) (w : ℕ) → Within c out → Placed width c x w → P outside → P x
+  to_out P out outside w a p h = h
+  to_out P out x w a p h = absurd p
+  to_out P c x w a p h = absurd a
 
-  to_named : {P : Standing → Type 0} (c : Class) (x : Standing) (w : ℕ) → Within c named → Placed width c x w → P after_a_name → P x
-  to_named named after_a_name w a p h = h
-  to_named named x w a p h = absurd p
-  to_named c x w a p h = absurd a
+  to_named : (P : Standing → Type 0) (c : Class) (x : Standing) (w : ℕ) → Within c named → Placed width c x w → P after_a_name → P x
+  to_named P named after_a_name w a p h = h
+  to_named P named x w a p h = absurd p
+  to_named P c x w a p h = absurd a
 
-  to_start : {P : Standing → Type 0} (c : Class) (x : Standing) (w : ℕ) → Within c start → Placed width c x w → P (inside 0) → P x
-  to_start start (inside zero) w a p h = h
-  to_start start x w a p h = absurd p
-  to_start c x w a p h = absurd a
+  to_start : (P : Standing → Type 0) (c : Class) (x : Standing) (w : ℕ) → Within c start → Placed width c x w → P (inside 0) → P x
+  to_start P start (inside zero) w a p h = h
+  to_start P start x w a p h = absurd p
+  to_start P c x w a p h = absurd a
 
-  to_during : {P : Standing → Type 0} (c : Class) (x : Standing) (w : ℕ) → Within c during → Placed width c x w → ((n : ℕ) → n + w ≡ width → P (inside n)) → P x
-  to_during during (inside n) w a p h = h n p
-  to_during during x w a p h = absurd p
-  to_during c x w a p h = absurd a
+  to_during : (P : Standing → Type 0) (c : Class) (x : Standing) (w : ℕ) → Within c during → Placed width c x w → ((n : ℕ) → n + w ≡ width → P (inside n)) → P x
+  to_during P during (inside n) w a p h = h n p
+  to_during P during x w a p h = absurd p
+  to_during P c x w a p h = absurd a
 
-  to_done : {P : Standing → Type 0} (c : Class) (x : Standing) (w : ℕ) → Within c done → Placed width c x w → ((n : ℕ) → n ≤ width → P (inside n)) → P x
-  to_done done (inside n) w a p h = h n p
-  to_done done x w a p h = absurd p
-  to_done c x w a p h = absurd a
+  to_done : (P : Standing → Type 0) (c : Class) (x : Standing) (w : ℕ) → Within c done → Placed width c x w → ((n : ℕ) → n ≤ width → P (inside n)) → P x
+  to_done P done (inside n) w a p h = h n p
+  to_done P done x w a p h = absurd p
+  to_done P c x w a p h = absurd a
 
   pub step_leads : (s : List Want) (k : TokenKind) (d w b : ℕ) (x : Standing) (c : Class) → Chain c s → Placed width c x w → d + closes s ≡ depth → closes s ≡ b
       → Keeps (step width k s d w) (after b x k)
   step_leads [] k d w b x c h p e f = tt
   step_leads (token j ∷ s) k d w b x c h p e f = token_leads j k s d w b x c h.0 h.1 h.2 p e f (nat_eq (number_of j) (number_of k)) refl
   step_leads (inner kind.RightParen ∷ s) k d w b x c h p e f =
-      to_during {P = λ (y : Standing). Keeps (step width k (inner kind.RightParen ∷ s) d w) (after b y k)} c x w h.0 p (λ n q. at_paren k s d w b n q h.2 e f)
+      to_during (λ (y : Standing). Keeps (step width k (inner kind.RightParen ∷ s) d w) (after b y k)) c x w h.0 p (λ n q. at_paren k s d w b n q h.2 e f)
   step_leads (inner kind.RightBracket ∷ s) k d w b x c h p e f =
-      to_during {P = λ (y : Standing). Keeps (step width k (inner kind.RightBracket ∷ s) d w) (after b y k)} c x w h.0 p (λ n q. at_bracket k s d w b n q h.2 e f)
+      to_during (λ (y : Standing). Keeps (step width k (inner kind.RightBracket ∷ s) d w) (after b y k)) c x w h.0 p (λ n q. at_bracket k s d w b n q h.2 e f)
   step_leads (inner j ∷ s) k d w b x c h p e f = absurd h.1
   step_leads (close ∷ s) k d w b x c h p e f =
-      to_out {P = λ (y : Standing). Keeps (step width k (close ∷ s) d w) (after b y k)} c x w h.0 p (at_close k s d w b h.2 e f)
+      to_out (λ (y : Standing). Keeps (step width k (close ∷ s) d w) (after b y k)) c x w h.0 p (at_close k s d w b h.2 e f)
   step_leads (fresh ∷ s) k d w b x c h p e f =
-      to_during {P = λ (y : Standing). Keeps (step width k (fresh ∷ s) d w) (after b y k)} c x w h.0 p (λ n q. step_leads s k d width b (inside n) done h.2 (omega (arith, q)) e f)
+      to_during (λ (y : Standing). Keeps (step width k (fresh ∷ s) d w) (after b y k)) c x w h.0 p (λ n q. step_leads s k d width b (inside n) done h.2 (omega (arith, q)) e f)
   step_leads (outermost ∷ s) k d w b x c h p e f =
-      to_start {P = λ (y : Standing). Keeps (step width k (outermost ∷ s) d w) (after b y k)} c x w h.0 p (at_outermost k s d w b h.2 e f)
+      to_start (λ (y : Standing). Keeps (step width k (outermost ∷ s) d w) (after b y k)) c x w h.0 p (at_outermost k s d w b h.2 e f)
   step_leads (sum ∷ s) k d w b x c h p e f =
-      to_during {P = λ (y : Standing). Keeps (step width k (sum ∷ s) d w) (after b y k)} c x w h.0 p (λ n q. at_sum k s d w b n q h.2 e f)
+      to_during (λ (y : Standing). Keeps (step width k (sum ∷ s) d w) (after b y k)) c x w h.0 p (λ n q. at_sum k s d w b n q h.2 e f)
   step_leads (term ∷ s) k d w b x c h p e f =
-      to_during {P = λ (y : Standing). Keeps (step width k (term ∷ s) d w) (after b y k)} c x w h.0 p (λ n q. at_term k s d w b n q h.2 e f)
+      to_during (λ (y : Standing). Keeps (step width k (term ∷ s) d w) (after b y k)) c x w h.0 p (λ n q. at_term k s d w b n q h.2 e f)
   step_leads (factor ∷ s) k d w b x c h p e f =
-      to_during {P = λ (y : Standing). Keeps (step width k (factor ∷ s) d w) (after b y k)} c x w h.0 p (λ n q. at_factor k s d w b n q h.2 e f)
+      to_during (λ (y : Standing). Keeps (step width k (factor ∷ s) d w) (after b y k)) c x w h.0 p (λ n q. at_factor k s d w b n q h.2 e f)
   step_leads (sum_tail ∷ s) k d w b x c h p e f =
-      to_during {P = λ (y : Standing). Keeps (step width k (sum_tail ∷ s) d w) (after b y k)} c x w h.0 p (λ n q. at_sum_tail k s d w b n q h.2 e f (step_leads s k d w b (inside n) during h.2 q e f))
+      to_during (λ (y : Standing). Keeps (step width k (sum_tail ∷ s) d w) (after b y k)) c x w h.0 p (λ n q. at_sum_tail k s d w b n q h.2 e f (step_leads s k d w b (inside n) during h.2 q e f))
   step_leads (term_tail ∷ s) k d w b x c h p e f =
-      to_during {P = λ (y : Standing). Keeps (step width k (term_tail ∷ s) d w) (after b y k)} c x w h.0 p (λ n q. at_term_tail k s d w b n q h.2 e f (step_leads s k d w b (inside n) during h.2 q e f))
+      to_during (λ (y : Standing). Keeps (step width k (term_tail ∷ s) d w) (after b y k)) c x w h.0 p (λ n q. at_term_tail k s d w b n q h.2 e f (step_leads s k d w b (inside n) during h.2 q e f))
   step_leads (index ∷ s) k d w b x c h p e f =
-      to_during {P = λ (y : Standing). Keeps (step width k (index ∷ s) d w) (after b y k)} c x w h.0 p (λ n q. at_index k s d w b n q h.2 e f (step_leads s k d w b (inside n) during h.2 q e f))
+      to_during (λ (y : Standing). Keeps (step width k (index ∷ s) d w) (after b y k)) c x w h.0 p (λ n q. at_index k s d w b n q h.2 e f (step_leads s k d w b (inside n) during h.2 q e f))
   step_leads (comparison ∷ s) k d w b x c h p e f =
-      to_done {P = λ (y : Standing). Keeps (step width k (comparison ∷ s) d w) (after b y k)} c x w h.0 p (λ n q. at_comparison k s d w b n h.2 e f)
+      to_done (λ (y : Standing). Keeps (step width k (comparison ∷ s) d w) (after b y k)) c x w h.0 p (λ n q. at_comparison k s d w b n h.2 e f)
   step_leads (listed ∷ s) k d w b x c h p e f =
-      to_start {P = λ (y : Standing). Keeps (step width k (listed ∷ s) d w) (after b y k)} c x w h.0 p (at_listed k s d w b h.2 e f)
+      to_start (λ (y : Standing). Keeps (step width k (listed ∷ s) d w) (after b y k)) c x w h.0 p (at_listed k s d w b h.2 e f)
   step_leads (commas ∷ s) k d w b x c h p e f =
-      to_done {P = λ (y : Standing). Keeps (step width k (commas ∷ s) d w) (after b y k)} c x w h.0 p (λ n q. at_commas k s d w b n q h.2 e f)
+      to_done (λ (y : Standing). Keeps (step width k (commas ∷ s) d w) (after b y k)) c x w h.0 p (λ n q. at_commas k s d w b n q h.2 e f)
   step_leads (place_tail ∷ s) k d w b x c h p e f =
-      to_named {P = λ (y : Standing). Keeps (step width k (place_tail ∷ s) d w) (after b y k)} c x w h.0 p (at_place k s d w b h.2 e f (step_leads s k d width b after_a_name anywhere h.2 (omega arith) e f))
+      to_named (λ (y : Standing). Keeps (step width k (place_tail ∷ s) d w) (after b y k)) c x w h.0 p (at_place k s d w b h.2 e f (step_leads s k d width b after_a_name anywhere h.2 (omega arith) e f))
   step_leads (after_name ∷ s) k d w b x c h p e f =
-      to_named {P = λ (y : Standing). Keeps (step width k (after_name ∷ s) d w) (after b y k)} c x w h.0 p (at_name k s d w b h.2 e f)
+      to_named (λ (y : Standing). Keeps (step width k (after_name ∷ s) d w) (after b y k)) c x w h.0 p (at_name k s d w b h.2 e f)
   step_leads (statements ∷ s) k d w b x c h p e f =
-      to_out {P = λ (y : Standing). Keeps (step width k (statements ∷ s) d w) (after b y k)} c x w h.0 p (at_statements k s d w b h.2 e f (step_leads s k d width b outside out h.2 tt e f))
+      to_out (λ (y : Standing). Keeps (step width k (statements ∷ s) d w) (after b y k)) c x w h.0 p (at_statements k s d w b h.2 e f (step_leads s k d width b outside out h.2 tt e f))
   step_leads (otherwise ∷ s) k d w b x c h p e f =
-      to_out {P = λ (y : Standing). Keeps (step width k (otherwise ∷ s) d w) (after b y k)} c x w h.0 p (at_else k s d w b h.2 e f (step_leads s k d width b outside out h.2 tt e f))
+      to_out (λ (y : Standing). Keeps (step width k (otherwise ∷ s) d w) (after b y k)) c x w h.0 p (at_else k s d w b h.2 e f (step_leads s k d width b outside out h.2 tt e f))
   step_leads (declarations ∷ s) k d w b x c h p e f =
-      to_out {P = λ (y : Standing). Keeps (step width k (declarations ∷ s) d w) (after b y k)} c x w h.0 p (at_declarations k s d w b h.1 h.2 e f (step_leads s k d width b outside out h.2 tt e f))
+      to_out (λ (y : Standing). Keeps (step width k (declarations ∷ s) d w) (after b y k)) c x w h.0 p (at_declarations k s d w b h.1 h.2 e f (step_leads s k d width b outside out h.2 tt e f))
   step_leads (bound ∷ s) k d w b x c h p e f =
-      to_out {P = λ (y : Standing). Keeps (step width k (bound ∷ s) d w) (after b y k)} c x w h.0 p (at_bound k s d w b h.2 e f)
+      to_out (λ (y : Standing). Keeps (step width k (bound ∷ s) d w) (after b y k)) c x w h.0 p (at_bound k s d w b h.2 e f)
   step_leads (params ∷ s) k d w b x c h p e f =
-      to_start {P = λ (y : Standing). Keeps (step width k (params ∷ s) d w) (after b y k)} c x w h.0 p (at_params k s d w b h.2 e f)
+      to_start (λ (y : Standing). Keeps (step width k (params ∷ s) d w) (after b y k)) c x w h.0 p (at_params k s d w b h.2 e f)
   step_leads (more_params ∷ s) k d w b x c h p e f =
-      to_out {P = λ (y : Standing). Keeps (step width k (more_params ∷ s) d w) (after b y k)} c x w h.0 p (at_more_params k s d w b h.2 e f)
+      to_out (λ (y : Standing). Keeps (step width k (more_params ∷ s) d w) (after b y k)) c x w h.0 p (at_more_params k s d w b h.2 e f)
   step_leads (locals ∷ s) k d w b x c h p e f =
       let least = loose c x w p in
       at_locals k s d w b x h.2 e f (step_leads s k d width b x anywhere h.2 least e f)

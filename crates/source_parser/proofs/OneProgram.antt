@@ -173,68 +173,68 @@ else_closes (other second) = tt
 
 mutual
   one_statement : {width depth : ℕ} {terminals r s : List Terminal} {a b : Statement} → ReadsStatement width depth terminals a r → ReadsStatement width depth terminals b s → (a ≡ b) × (r ≡ s)
-  one_statement {width} (assign {terminals = terminals} {behind = behind} {target = target} {value = value} place first) (assign {behind = behind'} {rest = rest'} {target = target'} {value = value'} place' second) =
+  one_statement {width} (assign {terminals = terminals} {behind = behind} {target = target} {value = value} place first) (assign {last = last'} {behind = behind'} {rest = rest'} {target = target'} {value = value'} place' second) =
       let same = one_place place place' tt tt in
       let ends = same.1 in
       let same_behind : behind' ≡ behind = cc in
-      let values = one_outermost first (subst (λ (ts : List Terminal). ReadsOutermost width ts value' (fixed kind.Semicolon _ ∷ rest')) same_behind second) refl refl in
+      let values = one_outermost first (subst (λ (ts : List Terminal). ReadsOutermost width ts value' (fixed kind.Semicolon last' ∷ rest')) same_behind second) refl refl in
       let last = values.1 in
       let same_value = values.0 in
       let same_target = same.0 in
       (cc, cc)
-  one_statement (assign place value) (print other) = let begins = place_begins place in let same = begins.2 in absurd cc
-  one_statement (assign place value) (read other) = let begins = place_begins place in let same = begins.2 in absurd cc
+  one_statement (assign place value) (print twin) = let begins = place_begins place in let same = begins.2 in absurd cc
+  one_statement (assign place value) (read twin) = let begins = place_begins place in let same = begins.2 in absurd cc
   one_statement (assign place value) (if_statement test first second) = let begins = place_begins place in let same = begins.2 in absurd cc
   one_statement (assign place value) (for_statement from to body) = let begins = place_begins place in let same = begins.2 in absurd cc
   one_statement (assign place value) (while_statement test body) = let begins = place_begins place in let same = begins.2 in absurd cc
   one_statement (assign place value) (call arguments) = absurd (paren_place place refl refl)
-  one_statement (print value) (assign place other) = let begins = place_begins place in let same = begins.2 in absurd cc
-  one_statement (read value) (assign place other) = let begins = place_begins place in let same = begins.2 in absurd cc
-  one_statement (if_statement test first second) (assign place other) = let begins = place_begins place in let same = begins.2 in absurd cc
-  one_statement (for_statement from to body) (assign place other) = let begins = place_begins place in let same = begins.2 in absurd cc
-  one_statement (while_statement test body) (assign place other) = let begins = place_begins place in let same = begins.2 in absurd cc
-  one_statement (call arguments) (assign place other) = absurd (paren_place place refl refl)
-  one_statement (print {line = line} value) (print other) =
-      let same = one_outermost value other refl refl in
+  one_statement (print value) (assign place twin) = let begins = place_begins place in let same = begins.2 in absurd cc
+  one_statement (read value) (assign place twin) = let begins = place_begins place in let same = begins.2 in absurd cc
+  one_statement (if_statement test first second) (assign place twin) = let begins = place_begins place in let same = begins.2 in absurd cc
+  one_statement (for_statement from to body) (assign place twin) = let begins = place_begins place in let same = begins.2 in absurd cc
+  one_statement (while_statement test body) (assign place twin) = let begins = place_begins place in let same = begins.2 in absurd cc
+  one_statement (call arguments) (assign place twin) = absurd (paren_place place refl refl)
+  one_statement (print {line = line} value) (print twin) =
+      let same = one_outermost value twin refl refl in
       let ends = same.1 in
       (ap (λ (e : Expr). Print e line) same.0, cc)
-  one_statement (read {line = line} place) (read other) =
-      let same = one_place place other tt tt in
+  one_statement (read {line = line} place) (read twin) =
+      let same = one_place place twin tt tt in
       let ends = same.1 in
       (ap (λ (p : Place). Read p line) same.0, cc)
   one_statement {width = width} {depth = suc depth} (if_statement {behind = behind} {further = further} {condition = c} {first = xs} {second = ys} test first second)
-      (if_statement {behind = behind'} {further = further'} {rest = rest'} {condition = c'} {first = xs'} {second = ys'} test' first' second') =
+      (if_statement {last = last'} {behind = behind'} {further = further'} {rest = rest'} {condition = c'} {first = xs'} {second = ys'} test' first' second') =
       let tests = one_condition test test' refl refl in
       let then = tests.1 in
       let same_behind : behind' ≡ behind = cc in
       let firsts = one_list first (subst (λ (ts : List Terminal). ReadsStatements width depth ts xs' further') same_behind first') (else_closes second) (else_closes second') in
       let same_further = firsts.1 in
-      let seconds = one_else second (subst (λ (ts : List Terminal). ReadsElse width depth ts ys' _) (sym same_further) second') in
+      let seconds = one_else second (subst (λ (ts : List Terminal). ReadsElse width depth ts ys' (fixed kind.End last' ∷ rest')) (sym same_further) second') in
       let end = seconds.1 in
       let same_test = tests.0 in
       let same_first = firsts.0 in
       let same_second = seconds.0 in
       (cc, cc)
   one_statement {width = width} {depth = suc depth} (for_statement {behind = behind} {further = further} from to body)
-      (for_statement {behind = behind'} {further = further'} {rest = rest'} {to = b'} {body = xs'} from' to' body') =
+      (for_statement {n = n'} {last = last'} {behind = behind'} {further = further'} {rest = rest'} {to = b'} {body = xs'} from' to' body') =
       let froms = one_outermost from from' refl refl in
       let first_end = froms.1 in
       let same_behind : behind' ≡ behind = cc in
-      let tos = one_outermost to (subst (λ (ts : List Terminal). ReadsOutermost width ts b' _) same_behind to') refl refl in
+      let tos = one_outermost to (subst (λ (ts : List Terminal). ReadsOutermost width ts b' (fixed kind.Do n' ∷ further')) same_behind to') refl refl in
       let second_end = tos.1 in
       let same_further : further' ≡ further = cc in
-      let bodies = one_list body (subst (λ (ts : List Terminal). ReadsStatements width depth ts xs' _) same_further body') tt tt in
+      let bodies = one_list body (subst (λ (ts : List Terminal). ReadsStatements width depth ts xs' (fixed kind.End last' ∷ rest')) same_further body') tt tt in
       let end = bodies.1 in
       let same_from = froms.0 in
       let same_to = tos.0 in
       let same_body = bodies.0 in
       (cc, cc)
-  one_statement {width = width} {depth = suc depth} (while_statement {behind = behind} {limit = limit} test body) (while_statement {behind = behind'} {rest = rest'} {limit = limit'} {body = xs'} test' body') =
+  one_statement {width = width} {depth = suc depth} (while_statement {behind = behind} {limit = limit} test body) (while_statement {last = last'} {behind = behind'} {rest = rest'} {limit = limit'} {body = xs'} test' body') =
       let tests = one_condition test test' refl refl in
       let ends = tests.1 in
       let same_limit : limit ≡ limit' = cc in
       let same_behind : behind' ≡ behind = cc in
-      let bodies = one_list body (subst (λ (ts : List Terminal). ReadsStatements width depth ts xs' _) same_behind body') tt tt in
+      let bodies = one_list body (subst (λ (ts : List Terminal). ReadsStatements width depth ts xs' (fixed kind.End last' ∷ rest')) same_behind body') tt tt in
       let end = bodies.1 in
       let same_test = tests.0 in
       let same_body = bodies.0 in
@@ -276,7 +276,7 @@ one_range (g.range {behind = behind} low high) (g.range {behind = behind'} {rest
     (cc, highs.1)
 
 one_param : {terminals r s : List Terminal} {a b : Param} → ReadsParam terminals a r → ReadsParam terminals b s → (a ≡ b) × (r ≡ s)
-one_param (param range) (param range') = let same = one_range range range' in let same_range = same.0 in (cc, same.1)
+one_param (param low) (param other_low) = let same = one_range low other_low in let same_range = same.0 in (cc, same.1)
 
 one_local : {terminals r s : List Terminal} {a b : Local} → ReadsLocal terminals a r → ReadsLocal terminals b s → (a ≡ b) × (r ≡ s)
 one_local (g.local {line = line} first) (g.local second) =
@@ -293,7 +293,7 @@ local_begins : {terminals rest : List Terminal} {x : Local} → ReadsLocal termi
 local_begins (g.local first) h = absurd h
 
 no_paren : {line : ℕ} {terminals all rest : List Terminal} {x : Param} → ReadsParam all x rest → all ≡ fixed kind.RightParen line ∷ terminals → ⊥
-no_paren (param range) same = absurd cc
+no_paren (param low) same = absurd cc
 
 param_no_paren : {line : ℕ} {terminals rest : List Terminal} {x : Param} → ReadsParam (fixed kind.RightParen line ∷ terminals) x rest → ⊥
 param_no_paren h = no_paren h refl
@@ -308,14 +308,14 @@ one_declaration (array first) (array second) =
     let ends = same.1 in
     let same_range = same.0 in
     (cc, cc)
-one_declaration {depth} {width} (proc {behind = behind} {further = further} params locals body) (proc {behind = behind'} {further = further'} {rest = rest'} {locals = ls'} {body = xs'} params' locals' body') =
+one_declaration {depth} {width} (proc {behind = behind} {further = further} params locals body) (proc {behind = behind'} {further = further'} {rest = rest'} {locals = ls'} {body = xs'} {m = m'} {last = last'} params' locals' body') =
     let all = one_listed ReadsParam Anything (λ terminals r s a b first second h k. one_param first second) (λ line rest. tt) (λ line rest. tt) (λ line terminals rest x h. param_no_paren h) params params' in
     let same_behind = all.1 in
     let inner = one_all ReadsLocal Anything (λ terminals r s a b first second h k. one_local first second) (λ terminals rest x h. tt) NoLocal (λ terminals rest x. local_begins) locals
-      (subst (λ (ts : List Terminal). ReadsAll ReadsLocal ts ls' _) (sym same_behind) locals') tt tt in
+      (subst (λ (ts : List Terminal). ReadsAll ReadsLocal ts ls' (fixed kind.Do m' ∷ further')) (sym same_behind) locals') tt tt in
     let do_ = inner.1 in
     let same_further : further' ≡ further = cc in
-    let bodies = one_list body (subst (λ (ts : List Terminal). ReadsStatements width depth ts xs' _) same_further body') tt tt in
+    let bodies = one_list body (subst (λ (ts : List Terminal). ReadsStatements width depth ts xs' (fixed kind.End last' ∷ rest')) same_further body') tt tt in
     let end = bodies.1 in
     let same_params = all.0 in
     let same_locals = inner.0 in
@@ -346,11 +346,12 @@ statements_begin (statements (while_statement c f) more) = tt
 statements_begin (statements (call a) more) = tt
 
 -- ---- programs
+same_program : (a b : Program) → a.declarations ≡ b.declarations → a.statements ≡ b.statements → b ≡ a
+same_program a b p q = let whole : b ≡ record { declarations = a.declarations; statements = a.statements } = rw (p, q) refl in whole
+
 pub one_program : {depth width : ℕ} {terminals : List Terminal} {a b : Program} → Spells depth width terminals a → Spells depth width terminals b → b ≡ a
 one_program {depth} {width} {terminals} {a} {b} first second =
     let all = one_all (ReadsDeclaration depth width) Anything (λ terminals r s a b x y h k. one_declaration x y) (λ terminals rest x h. tt) NoDeclaration (λ terminals rest x. declaration_begins) first.declarations second.declarations
       (statements_begin first.statements) (statements_begin second.statements) in
     let bodies = one_list first.statements (subst (λ (ts : List Terminal). ReadsStatements width depth ts b.statements []) (sym all.1) second.statements) tt tt in
-    let same_declarations = all.0 in
-    let same_statements = bodies.0 in
-    cc
+    same_program a b all.0 bodies.0

@@ -38,10 +38,10 @@ returns-clause-parsed c =
     elim c.match-fault.branch [
       | in-Stops w ↦
           let fault = rw (w.in-Stops.is, c.new-reader.ensures) at c.in-Err.ensures.fault in
-          rw (w.result-is, c.len-2.ensures) (stops_there c.args.text.now c.args.tokens.now c.program.new.reader fault)
+          rw (w.result-is, c.len.ensures) (stops_there c.args.text.now c.args.tokens.now c.program.new.reader fault)
       | in-Deep w ↦
           let fault = rw (w.in-Deep.is, c.new-reader.ensures) at c.in-Err.ensures.fault in
-          rw (w.result-is, c.len-2.ensures) (deep_there c.args.text.now c.args.tokens.now c.program.new.reader fault)
+          rw (w.result-is, c.len.ensures) (deep_there c.args.text.now c.args.tokens.now c.program.new.reader fault)
       | in-NoMemory w ↦ rw w.result-is tt
     ]
 
