@@ -41,7 +41,7 @@ prefix_before kinds place later less h =
     let middle = drop place (take later kinds) in
     record {
       rest = middle ++ h.rest;
-      program = subst IsProgram (ap (λ (ks : List TokenKind). ks ++ h.rest) (sym (parted kinds place later less)) ∙ append_assoc (take place kinds) middle h.rest) h.program
+      program = subst IsProgram (ap (λ (ks : List TokenKind). ks ++ h.rest) (sym (parted kinds place later less)) ∙ append_assoc (take place kinds) middle h.rest) h.program;
     }
 
 pub within_before : {depth width : ℕ} (kinds : List TokenKind) (place later : ℕ) → place ≤ later → IsPrefixWithin depth width (take later kinds) → IsPrefixWithin depth width (take place kinds)
@@ -49,7 +49,7 @@ within_before {depth} {width} kinds place later less h =
     let middle = drop place (take later kinds) in
     record {
       rest = middle ++ h.rest;
-      spells = subst (SpellsKinds depth width) (ap (λ (ks : List TokenKind). ks ++ h.rest) (sym (parted kinds place later less)) ∙ append_assoc (take place kinds) middle h.rest) h.spells
+      spells = subst (SpellsKinds depth width) (ap (λ (ks : List TokenKind). ks ++ h.rest) (sym (parted kinds place later less)) ∙ append_assoc (take place kinds) middle h.rest) h.spells;
     }
 
 pub within_prefix : {depth width : ℕ} {kinds : List TokenKind} → IsPrefixWithin depth width kinds → IsPrefix kinds

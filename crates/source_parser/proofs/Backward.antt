@@ -1,28 +1,16 @@
 -- A kind in front of what is wanted after it is what is wanted.
-use Rattle.std.proofs.Common.{◌≡◌, subst, ℕ, zero, suc, ◌+◌, ◌-◌, ◌≤◌, List, [], ◌∷◌, ◌++◌, Option, Some, None, Bool, true, false, refl, ap, sym, ◌∙◌, arith, nat_eq, if◌then◌else◌}
-use Rattle.std.proofs.lemmas.Bool.{eqb-true}
-use Rattle.std.specs.Prelude.{ℤ, neg_ℤ}
+use Rattle.std.proofs.Common.{◌≡◌, subst, ℕ, zero, suc, List, [], ◌∷◌, Some, None, Bool, true, false, refl, ap, sym, ◌∙◌, arith, nat_eq, if◌then◌else◌}
 use Rattle.source_lexer.specs.declared.token.TokenKind.{TokenKind}
 use Rattle.source_lexer.specs.declared.token.TokenKind.TheVariants as kind
-use Rattle.source_tree.specs.declared.name.Range.{Range}
-use Rattle.source_tree.specs.declared.expression.Expr.{Expr}
-use Rattle.source_tree.specs.declared.expression.Operator.{Operator}
-use Rattle.source_tree.specs.declared.expression.Comparison.{Comparison}
-use Rattle.source_tree.specs.declared.expression.Condition.{Condition}
-use Rattle.source_tree.specs.declared.statement.Place.{Place}
-use Rattle.source_tree.specs.declared.statement.Statement.{Statement}
-use Rattle.source_tree.specs.declared.declaration.Param.{Param}
-use Rattle.source_tree.specs.declared.declaration.Local.{Local}
-use Rattle.source_tree.specs.declared.declaration.Declaration.{Declaration}
-use Rattle.source_parser.specs.Terminals.{Terminal, identifier, literal, fixed}
+use Rattle.source_parser.specs.Terminals.{Terminal}
 use Rattle.source_parser.specs.Grammar as g
 use Rattle.source_parser.specs.Grammar.{Level, Joins, plus, minus, times, divided, remainder, ReadsExpr, number, name, element, negated, bracketed, one_factor, multiplied, one_term, added, weight, ReadsWithin, ReadsOutermost}
 use Rattle.source_parser.specs.Grammar.{Compares, less, less_equal, greater, greater_equal, equal, not_equal, ReadsCondition, condition, ReadsPlace, variable, element_of, ReadsAll, none, and_more, ReadsCommas, last, comma, ReadsListed, nothing, things}
 use Rattle.source_parser.specs.Grammar.{ReadsStatement, assign, print, read, if_statement, for_statement, while_statement, call, ReadsStatements, no_statement, ReadsElse, no_else, other, ReadsBound, unsigned, signed, ReadsRange, ReadsParam, param, ReadsLocal, ReadsDeclaration, var, array, proc, Spells}
 use Rattle.source_parser.specs.Wants.{Want, token, inner, close, fresh, outermost, sum, sum_tail, term, term_tail, factor, index, comparison, listed, commas, place_tail, after_name, statements, otherwise, declarations, bound, params, more_params, locals}
-use Rattle.source_parser.specs.Wants.{Move, stuck, deep, on, step, expand, may_end, price, left, moved, pay, number_of}
-use Rattle.source_parser.proofs.KindNumbers.{plain, plains, same_kind}
-use Rattle.source_parser.proofs.Completions.{Stands, FollowedWithin, Followed, Longer, IsPlain, Sign, Fits}
+use Rattle.source_parser.specs.Wants.{Move, stuck, deep, on, step, price, moved, number_of}
+use Rattle.source_parser.proofs.KindNumbers.{plain, same_kind}
+use Rattle.source_parser.proofs.Completions.{Stands, Followed, IsPlain, Sign, Fits}
 
 abbrev pub Backs : ℕ → TokenKind → List Want → ℕ → ℕ → Move → Type 0
 Backs width k s d w stuck = Unit {0}
@@ -120,7 +108,7 @@ condition_of width B terminals f =
     record {
       rest = f.behind.behind.rest;
       reads = record { tree = _; reads = condition (rw sign.is at f.reads.reads) sign.compares f.behind.behind.reads.reads };
-      behind = f.behind.behind.behind
+      behind = f.behind.behind.behind;
     }
 
 range_of : (B : List Terminal → Type 0) (terminals : List Terminal) → Followed (Stands ReadsBound) (Followed (IsPlain kind.Dots) (Followed (Stands ReadsBound) B)) terminals → Followed (Stands ReadsRange) B terminals
@@ -138,7 +126,7 @@ param_of B terminals f =
     record {
       rest = r.rest;
       reads = subst (λ (x : List Terminal). Stands ReadsParam x r.rest) (sym front) (record { tree = _; reads = param r.reads.reads });
-      behind = r.behind
+      behind = r.behind;
     }
 
 -- ---- statements
@@ -150,7 +138,7 @@ back_name width kind.LeftBracket s d w = λ terminals f.
     record {
       rest = value.behind.rest;
       reads = record { tree = _; reads = assign (element_of (rw (f.behind.reads, f.behind.behind.reads) at f.reads.reads)) (rw value.behind.reads at value.reads.reads) };
-      behind = value.behind.behind
+      behind = value.behind.behind;
     }
 back_name width kind.Becomes s d w = λ terminals f.
     record { rest = f.behind.rest; reads = record { tree = _; reads = assign variable (rw f.behind.reads at f.reads.reads) }; behind = f.behind.behind }
@@ -166,8 +154,8 @@ back_statements width kind.Read s d w h = λ terminals f.
     record {
       rest = more.rest;
       reads = subst (λ (x : List Terminal). Stands (ReadsStatements width d) (plain kind.Read ∷ x) more.rest) (sym f.reads)
-        (record { tree = _; reads = g.statements (read (rw place.behind.reads at place.reads.reads)) more.reads.reads });
-      behind = more.behind
+          (record { tree = _; reads = g.statements (read (rw place.behind.reads at place.reads.reads)) more.reads.reads });
+      behind = more.behind;
     }
 back_statements width kind.If s zero w h = tt
 back_statements width kind.If s (suc d) w h = λ terminals f.
@@ -179,9 +167,9 @@ back_statements width kind.If s (suc d) w h = λ terminals f.
       rest = more.rest;
       reads = record {
         tree = _;
-        reads = g.statements (if_statement (rw c.behind.reads at c.reads.reads) first.reads.reads (rw second.behind.reads at second.reads.reads)) more.reads.reads
+        reads = g.statements (if_statement (rw c.behind.reads at c.reads.reads) first.reads.reads (rw second.behind.reads at second.reads.reads)) more.reads.reads;
       };
-      behind = more.behind
+      behind = more.behind;
     }
 back_statements width kind.For s zero w h = tt
 back_statements width kind.For s (suc d) w h = λ terminals f.
@@ -193,11 +181,11 @@ back_statements width kind.For s (suc d) w h = λ terminals f.
     record {
       rest = more.rest;
       reads = subst (λ (x : List Terminal). Stands (ReadsStatements width (suc d)) (plain kind.For ∷ x) more.rest) (sym front)
-        (record {
-          tree = _;
-          reads = g.statements (for_statement (rw from.behind.reads at from.reads.reads) (rw to.behind.reads at to.reads.reads) (rw body.behind.reads at body.reads.reads)) more.reads.reads
-        });
-      behind = more.behind
+          (record {
+            tree = _;
+            reads = g.statements (for_statement (rw from.behind.reads at from.reads.reads) (rw to.behind.reads at to.reads.reads) (rw body.behind.reads at body.reads.reads)) more.reads.reads;
+          });
+      behind = more.behind;
     }
 back_statements width kind.While s zero w h = tt
 back_statements width kind.While s (suc d) w h = λ terminals f.
@@ -208,9 +196,9 @@ back_statements width kind.While s (suc d) w h = λ terminals f.
       rest = more.rest;
       reads = record {
         tree = _;
-        reads = g.statements (while_statement (rw (c.behind.reads, c.behind.behind.reads, c.behind.behind.behind.reads) at c.reads.reads) (rw body.behind.reads at body.reads.reads)) more.reads.reads
+        reads = g.statements (while_statement (rw (c.behind.reads, c.behind.behind.reads, c.behind.behind.behind.reads) at c.reads.reads) (rw body.behind.reads at body.reads.reads)) more.reads.reads;
       };
-      behind = more.behind
+      behind = more.behind;
     }
 back_statements width kind.Name s d w h = λ terminals f.
     record { rest = f.behind.rest; reads = record { tree = _; reads = g.statements f.reads.reads f.behind.reads.reads }; behind = f.behind.behind }
@@ -225,20 +213,20 @@ back_declarations width kind.Var s d w h = λ terminals f.
     record {
       rest = more.rest;
       reads = record { tree = _; reads = and_more (var {x = p.reads.tree.name} {range = p.reads.tree.range} (rw p.behind.reads at p.reads.reads)) more.reads.reads };
-      behind = more.behind
+      behind = more.behind;
     }
 back_declarations width kind.Array s d w h = λ terminals f.
     let r = range_of (Fits width (token kind.Semicolon ∷ declarations ∷ s) d width) f.behind.behind.behind.behind.rest f.behind.behind.behind.behind.behind in
     let more = r.behind.behind in
     let front : terminals ≡ plain kind.Name ∷ plain kind.LeftBracket ∷ plain kind.Number ∷ plain kind.RightBracket ∷ plain kind.Colon ∷ f.behind.behind.behind.behind.rest
-      = f.reads ∙ ap (λ (x : List Terminal). plain kind.Name ∷ x) f.behind.reads ∙ ap (λ (x : List Terminal). plain kind.Name ∷ plain kind.LeftBracket ∷ x) f.behind.behind.reads
-      ∙ ap (λ (x : List Terminal). plain kind.Name ∷ plain kind.LeftBracket ∷ plain kind.Number ∷ x) f.behind.behind.behind.reads
-      ∙ ap (λ (x : List Terminal). plain kind.Name ∷ plain kind.LeftBracket ∷ plain kind.Number ∷ plain kind.RightBracket ∷ x) f.behind.behind.behind.behind.reads in
+    = f.reads ∙ ap (λ (x : List Terminal). plain kind.Name ∷ x) f.behind.reads ∙ ap (λ (x : List Terminal). plain kind.Name ∷ plain kind.LeftBracket ∷ x) f.behind.behind.reads
+    ∙ ap (λ (x : List Terminal). plain kind.Name ∷ plain kind.LeftBracket ∷ plain kind.Number ∷ x) f.behind.behind.behind.reads
+    ∙ ap (λ (x : List Terminal). plain kind.Name ∷ plain kind.LeftBracket ∷ plain kind.Number ∷ plain kind.RightBracket ∷ x) f.behind.behind.behind.behind.reads in
     record {
       rest = more.rest;
       reads = subst (λ (x : List Terminal). Stands (ReadsAll (ReadsDeclaration d width)) (plain kind.Array ∷ x) more.rest) (sym front)
-        (record { tree = _; reads = and_more (array (rw r.behind.reads at r.reads.reads)) more.reads.reads });
-      behind = more.behind
+          (record { tree = _; reads = and_more (array (rw r.behind.reads at r.reads.reads)) more.reads.reads });
+      behind = more.behind;
     }
 back_declarations width kind.Proc s d w h = λ terminals f.
     let params_ = f.behind.behind in
@@ -249,11 +237,11 @@ back_declarations width kind.Proc s d w h = λ terminals f.
     record {
       rest = more.rest;
       reads = subst (λ (x : List Terminal). Stands (ReadsAll (ReadsDeclaration d width)) (plain kind.Proc ∷ x) more.rest) (sym front)
-        (record {
-          tree = _;
-          reads = and_more (proc params_.reads.reads (rw locals_.behind.reads at locals_.reads.reads) (rw body.behind.reads at body.reads.reads)) more.reads.reads
-        });
-      behind = more.behind
+          (record {
+            tree = _;
+            reads = and_more (proc params_.reads.reads (rw locals_.behind.reads at locals_.reads.reads) (rw body.behind.reads at body.reads.reads)) more.reads.reads;
+          });
+      behind = more.behind;
     }
 back_declarations width k s d w h =
     lifts width k s d width (declarations ∷ s) d w (λ terminals f. record { rest = terminals; reads = record { tree = []; reads = none }; behind = f }) (step width k s d width) h
@@ -266,7 +254,7 @@ back_params width kind.Name s d w = λ terminals f.
     record {
       rest = r.behind.rest;
       reads = subst (λ (x : List Terminal). Stands (ReadsListed ReadsParam) (plain kind.Name ∷ x) r.behind.rest) (sym f.reads) (record { tree = all.tree; reads = things all.reads });
-      behind = r.behind.behind
+      behind = r.behind.behind;
     }
 back_params width k s d w = tt
 
@@ -285,7 +273,7 @@ back_locals width kind.Var s d w h = λ terminals f.
     record {
       rest = more.rest;
       reads = record { tree = _; reads = and_more (g.local {x = p.reads.tree.name} {range = p.reads.tree.range} (rw p.behind.reads at p.reads.reads)) more.reads.reads };
-      behind = more.behind
+      behind = more.behind;
     }
 back_locals width k s d w h =
     lifts width k s d width (locals ∷ s) d w (λ terminals f. record { rest = terminals; reads = record { tree = []; reads = none }; behind = f }) (step width k s d width) h

@@ -1,19 +1,8 @@
 -- What is wanted can be completed.
-use Rattle.std.proofs.Common.{◌≡◌, subst, ℕ, zero, suc, ◌+◌, ◌-◌, ◌≤◌, List, [], ◌∷◌, ◌++◌, Option, Some, None, Bool, true, false, refl, ap, sym, ◌∙◌, arith, nat_eq, if◌then◌else◌}
-use Rattle.std.proofs.lemmas.Bool.{eqb-true}
-use Rattle.std.specs.Prelude.{ℤ, neg_ℤ}
+use Rattle.std.proofs.Common.{◌≡◌, ℕ, suc, ◌+◌, List, [], ◌∷◌, refl, arith}
 use Rattle.source_lexer.specs.declared.token.TokenKind.{TokenKind}
 use Rattle.source_lexer.specs.declared.token.TokenKind.TheVariants as kind
-use Rattle.source_tree.specs.declared.name.Range.{Range}
-use Rattle.source_tree.specs.declared.expression.Expr.{Expr}
-use Rattle.source_tree.specs.declared.expression.Operator.{Operator}
 use Rattle.source_tree.specs.declared.expression.Comparison.{Comparison}
-use Rattle.source_tree.specs.declared.expression.Condition.{Condition}
-use Rattle.source_tree.specs.declared.statement.Place.{Place}
-use Rattle.source_tree.specs.declared.statement.Statement.{Statement}
-use Rattle.source_tree.specs.declared.declaration.Param.{Param}
-use Rattle.source_tree.specs.declared.declaration.Local.{Local}
-use Rattle.source_tree.specs.declared.declaration.Declaration.{Declaration}
 use Rattle.source_parser.specs.Terminals.{Terminal, fixed}
 use Rattle.source_parser.proofs.KindNumbers.{plain, plains}
 use Rattle.source_parser.specs.Grammar as g
@@ -21,7 +10,6 @@ use Rattle.source_parser.specs.Grammar.{Level, Joins, plus, minus, times, divide
 use Rattle.source_parser.specs.Grammar.{Compares, less, less_equal, greater, greater_equal, equal, not_equal, ReadsCondition, condition, ReadsPlace, variable, element_of, ReadsAll, none, and_more, ReadsCommas, last, comma, ReadsListed, nothing, things}
 use Rattle.source_parser.specs.Grammar.{ReadsStatement, assign, print, read, if_statement, for_statement, while_statement, call, ReadsStatements, no_statement, ReadsElse, no_else, other, ReadsBound, unsigned, signed, ReadsRange, ReadsParam, param, ReadsLocal, ReadsDeclaration, var, array, proc, Spells}
 use Rattle.source_parser.specs.Wants.{Want, token, inner, close, fresh, outermost, sum, sum_tail, term, term_tail, factor, index, comparison, listed, commas, place_tail, after_name, statements, otherwise, declarations, bound, params, more_params, locals}
-use Rattle.source_parser.specs.Wants.{Move, stuck, deep, on, step, expand, may_end, price, left, moved, pay, number_of}
 
 -- something of the grammar, whatever its tree
 pub record Stands {A : Type 0} (Reads : List Terminal → A → List Terminal → Type 0) (terminals rest : List Terminal) : Type 0 where

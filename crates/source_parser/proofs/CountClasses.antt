@@ -1,8 +1,8 @@
 -- Where a want may come first, and where what it wants leads.
-use Rattle.std.proofs.Common.{◌≡◌, ℕ, zero, suc, ◌+◌, ◌≤◌, List, [], ◌∷◌, refl, arith}
+use Rattle.std.proofs.Common.{◌≡◌, ℕ, zero, suc, ◌+◌, ◌≤◌, List, [], ◌∷◌}
 use Rattle.source_lexer.specs.declared.token.TokenKind.{TokenKind}
 use Rattle.source_lexer.specs.declared.token.TokenKind.TheVariants as kind
-use Rattle.source_parser.specs.Counting.{Standing, outside, after_a_name, inside, standing_after, weight_of}
+use Rattle.source_parser.specs.Counting.{Standing, outside, after_a_name, inside, weight_of}
 use Rattle.source_parser.specs.Wants.{Want, token, inner, close, fresh, outermost, sum, sum_tail, term, term_tail, factor, index, comparison, listed, commas, place_tail, after_name, statements, otherwise, declarations, bound, params, more_params, locals}
 
 -- outside, and after a name there; at the start of an outermost expression, in it, and after it; anywhere

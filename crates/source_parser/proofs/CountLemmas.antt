@@ -1,8 +1,8 @@
 -- A place is the first over a limit where kinds before it are within the limits, and with it they are not.
-use Rattle.std.proofs.Common.{◌≡◌, ◌⊎◌, inl, inr, ℕ, zero, suc, ◌+◌, ◌<◌, ◌≤◌, List, [], ◌∷◌, ◌++◌, length, take, refl, ap, sym, subst, ◌∙◌, arith, append_assoc}
+use Rattle.std.proofs.Common.{◌≡◌, ◌⊎◌, inl, inr, ℕ, zero, suc, ◌<◌, ◌≤◌, List, [], ◌∷◌, ◌++◌, length, take, refl, ap, sym, subst, arith}
 use Rattle.source_lexer.specs.declared.token.TokenKind.{TokenKind}
-use Rattle.source_parser.specs.Counting.{Standing, outside, blocks_after, standing_after, weight_of, Count, counted, count_of, IsOver}
-use Rattle.source_parser.specs.Prefixes.{SpellsKinds, IsProgram, IsPrefix, IsPrefixWithin, DeepAt}
+use Rattle.source_parser.specs.Counting.{outside, weight_of, Count, counted, count_of, IsOver}
+use Rattle.source_parser.specs.Prefixes.{IsPrefix, IsPrefixWithin, DeepAt}
 use Rattle.source_parser.specs.Wants.{Want, declarations, statements, Move, stuck, deep, on, step, run, spelled}
 use Rattle.source_parser.proofs.AnswerLaws.{in_order, shorter, prefix_before, within_before}
 use Rattle.source_parser.proofs.CountSteps.{after, Agrees, Keeps, step_leads, never_over, at_first}
@@ -120,11 +120,13 @@ module _ (depth width : ℕ) where
   pub deep_is_first_over : (kinds : List TokenKind) (place : ℕ) → DeepAt depth width kinds place
       → IsOver depth width (count_of (take (suc place) kinds)) × ((earlier : ℕ) → earlier ≤ place → IsOver depth width (count_of (take earlier kinds)) → ⊥)
   deep_is_first_over kinds place h =
-      let none = none_over kinds place h.before in
-      (elim (over_or_not (count_of (take (suc place) kinds))) [
-        | inl over ↦ over
-        | inr last ↦ absurd (h.deep (not_over_within (take (suc place) kinds) h.prefix (no_part_over kinds (suc place) (up_to kinds place none last))))
-      ], none)
+      let none = none_over kinds place h.before in (
+        elim (over_or_not (count_of (take (suc place) kinds))) [
+          | inl over ↦ over
+          | inr last ↦ absurd (h.deep (not_over_within (take (suc place) kinds) h.prefix (no_part_over kinds (suc place) (up_to kinds place none last))))
+        ],
+        none,
+      )
 
   pub first_over_is_deep : (kinds : List TokenKind) (place : ℕ) → place < length kinds → IsPrefix (take (suc place) kinds) → IsOver depth width (count_of (take (suc place) kinds))
       → ((earlier : ℕ) → earlier ≤ place → IsOver depth width (count_of (take earlier kinds)) → ⊥) → DeepAt depth width kinds place

@@ -1,5 +1,5 @@
 -- What the grammar reads is what is wanted of it.
-use Rattle.std.proofs.Common.{◌≡◌, ℕ, zero, suc, ◌+◌, ◌-◌, ◌≤◌, List, [], ◌∷◌, refl, ap, sym, ◌∙◌, arith}
+use Rattle.std.proofs.Common.{◌≡◌, ℕ, suc, ◌+◌, ◌-◌, List, [], ◌∷◌, refl, ◌∙◌, arith}
 use Rattle.source_lexer.specs.declared.token.TokenKind.{TokenKind}
 use Rattle.source_lexer.specs.declared.token.TokenKind.TheVariants as kind
 use Rattle.source_tree.specs.declared.expression.Expr.{Expr}
@@ -13,14 +13,14 @@ use Rattle.source_tree.specs.declared.declaration.Param.{Param}
 use Rattle.source_tree.specs.declared.declaration.Local.{Local}
 use Rattle.source_tree.specs.declared.declaration.Declaration.{Declaration}
 use Rattle.source_tree.specs.declared.declaration.Program.{Program}
-use Rattle.source_parser.specs.Terminals.{Terminal, identifier, literal, fixed, kinds_of}
+use Rattle.source_parser.specs.Terminals.{Terminal, fixed, kinds_of}
 use Rattle.source_parser.specs.Grammar as g
 use Rattle.source_parser.specs.Grammar.{Level, Joins, plus, minus, times, divided, remainder, ReadsExpr, number, name, element, negated, bracketed, one_factor, multiplied, one_term, added, weight, ReadsWithin, ReadsOutermost}
 use Rattle.source_parser.specs.Grammar.{Compares, less, less_equal, greater, greater_equal, equal, not_equal, ReadsCondition, condition, ReadsPlace, variable, element_of, ReadsAll, none, and_more, ReadsCommas, last, comma, ReadsListed, nothing, things}
 use Rattle.source_parser.specs.Grammar.{ReadsStatement, assign, print, read, if_statement, for_statement, while_statement, call, ReadsStatements, no_statement, ReadsElse, no_else, other, ReadsBound, unsigned, signed, ReadsRange, ReadsParam, param, ReadsLocal, ReadsDeclaration, var, array, proc, Spells}
 use Rattle.source_parser.specs.Taking.{NotKind}
 use Rattle.source_parser.proofs.Runs.{comparison_goes, term_begins, sum_begins, outermost_begins, index_ends, listed_begins}
-use Rattle.source_parser.specs.Wants.{Want, token, inner, close, fresh, outermost, sum, sum_tail, term, term_tail, factor, index, comparison, listed, commas, place_tail, after_name, statements, otherwise, declarations, bound, params, more_params, locals, run, spelled}
+use Rattle.source_parser.specs.Wants.{Want, token, inner, close, fresh, outermost, sum, sum_tail, term, term_tail, factor, comparison, listed, commas, place_tail, statements, otherwise, declarations, bound, params, more_params, locals, run, spelled}
 
 -- ---- weights
 abbrev pub cost : {level : Level} {terminals rest : List Terminal} {e : Expr} → ReadsExpr level terminals e rest → ℕ

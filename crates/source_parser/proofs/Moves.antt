@@ -1,11 +1,10 @@
 -- How readers, one after the other, land where what is wanted of them does.
-use Rattle.std.proofs.Common.{◌≡◌, ℕ, List, [], ◌∷◌, ◌++◌, length, refl, ap, sym, subst, ◌∙◌, append_assoc, Option, Some, None, Result, Ok, Err}
+use Rattle.std.proofs.Common.{◌≡◌, ℕ, List, [], ◌∷◌, ◌++◌, length, refl, ap, sym, ◌∙◌, append_assoc, Option, Some, None, Result, Ok, Err}
 use Rattle.std.specs.Result.{IsErrAnd}
-use Rattle.source_lexer.specs.declared.token.TokenKind.{TokenKind}
 use Rattle.source_parser.specs.declared.fault.Fault.{Fault}
 use Rattle.source_parser.specs.declared.fault.Fault.TheVariants.{Stops, Deep, NoMemory}
 use Rattle.source_parser.specs.Limits.{depth_limit, weight_limit}
-use Rattle.source_parser.specs.Terminals.{Terminal, fixed, kinds_of}
+use Rattle.source_parser.specs.Terminals.{Terminal, kinds_of}
 use Rattle.source_parser.specs.Wants.{Want, declarations, statements, Outcome, run, stopped, too_deep}
 use Rattle.source_parser.specs.Landings.{Leads, Comes, Lands, reads, stops, deepens, no_memory, LandsNext, reads_one, reads_none, stops_there, deepens_there, lacks_memory, IsFaultOf}
 
@@ -23,13 +22,13 @@ pub onward : (more : List Want) {wants part others : List Want} {old now new : L
 onward more {part = part} {others = others} {now = now} {new = new} {e = e} {v = v} {d' = d'} {w' = w'} way so_far = record {
   leads = λ s.
       so_far.leads s ∙ ap (λ (xs : List Want). run weight_limit (kinds_of now) xs e v) (append_assoc part more s)
-      ∙ way.leads (more ++ s) ∙ sym (ap (λ (xs : List Want). run weight_limit (kinds_of new) xs d' w') (append_assoc others more s))
+      ∙ way.leads (more ++ s) ∙ sym (ap (λ (xs : List Want). run weight_limit (kinds_of new) xs d' w') (append_assoc others more s));
 }
 
 pub comes_to : (more : List Want) {wants part : List Want} {old now : List Terminal} {d w e v : ℕ} {outcome : Outcome}
     → Comes part now e v outcome → Leads wants old d w (part ++ more) now e v → Comes wants old d w outcome
 comes_to more {part = part} {now = now} {e = e} {v = v} h so_far = record {
-  comes = λ s. so_far.leads s ∙ ap (λ (xs : List Want). run weight_limit (kinds_of now) xs e v) (append_assoc part more s) ∙ h.comes (more ++ s)
+  comes = λ s. so_far.leads s ∙ ap (λ (xs : List Want). run weight_limit (kinds_of now) xs e v) (append_assoc part more s) ∙ h.comes (more ++ s);
 }
 
 -- ---- what a reader answers

@@ -1,5 +1,5 @@
 -- From the same terminals one program is read.
-use Rattle.std.proofs.Common.{◌≡◌, ℕ, ℤ, suc, true, false, Bool, List, [], ◌∷◌, refl, ap, sym, subst, ◌∙◌}
+use Rattle.std.proofs.Common.{◌≡◌, ℕ, ℤ, suc, List, [], ◌∷◌, refl, ap, sym, subst, ◌∙◌}
 use Rattle.source_lexer.specs.declared.token.TokenKind.{TokenKind}
 use Rattle.source_lexer.specs.declared.token.TokenKind.TheVariants as kind
 use Rattle.source_tree.specs.declared.name.Name.{Name}
@@ -10,13 +10,13 @@ use Rattle.source_tree.specs.declared.expression.Condition.{Condition}
 use Rattle.source_tree.specs.declared.expression.Expr.{Expr}
 use Rattle.source_tree.specs.declared.statement.Place.{Place}
 use Rattle.source_tree.specs.declared.statement.Place.TheVariants as place
-use Rattle.source_tree.specs.declared.statement.Statement.{Statement, Assign, Print, Read, If, For, While, Call}
+use Rattle.source_tree.specs.declared.statement.Statement.{Statement, Print, Read, Call}
 use Rattle.source_tree.specs.declared.declaration.Param.{Param}
 use Rattle.source_tree.specs.declared.declaration.Local.{Local}
 use Rattle.source_tree.specs.declared.declaration.Declaration.{Declaration}
-use Rattle.source_tree.specs.declared.declaration.Declaration.TheVariants.{Var, Array, Proc}
+use Rattle.source_tree.specs.declared.declaration.Declaration.TheVariants.{Var}
 use Rattle.source_tree.specs.declared.declaration.Program.{Program}
-use Rattle.source_parser.specs.Terminals.{Terminal, identifier, literal, fixed, first_line, kinds_of}
+use Rattle.source_parser.specs.Terminals.{Terminal, identifier, fixed}
 use Rattle.source_parser.specs.Grammar as g
 use Rattle.source_parser.specs.Grammar.{Compares, less, less_equal, greater, greater_equal, equal, not_equal, ReadsExpr, ReadsOutermost, ReadsCondition, condition, ReadsPlace, variable, element_of}
 use Rattle.source_parser.specs.Grammar.{ReadsAll, none, and_more, ReadsCommas, last, comma, ReadsListed, nothing, things, ReadsBound, unsigned, signed, ReadsRange, ReadsParam, param, ReadsLocal}
@@ -312,7 +312,7 @@ one_declaration {depth} {width} (proc {behind = behind} {further = further} para
     let all = one_listed ReadsParam Anything (λ terminals r s a b first second h k. one_param first second) (λ line rest. tt) (λ line rest. tt) (λ line terminals rest x h. param_no_paren h) params params' in
     let same_behind = all.1 in
     let inner = one_all ReadsLocal Anything (λ terminals r s a b first second h k. one_local first second) (λ terminals rest x h. tt) NoLocal (λ terminals rest x. local_begins) locals
-      (subst (λ (ts : List Terminal). ReadsAll ReadsLocal ts ls' (fixed kind.Do m' ∷ further')) (sym same_behind) locals') tt tt in
+    (subst (λ (ts : List Terminal). ReadsAll ReadsLocal ts ls' (fixed kind.Do m' ∷ further')) (sym same_behind) locals') tt tt in
     let do_ = inner.1 in
     let same_further : further' ≡ further = cc in
     let bodies = one_list body (subst (λ (ts : List Terminal). ReadsStatements width depth ts xs' (fixed kind.End last' ∷ rest')) same_further body') tt tt in
@@ -352,6 +352,6 @@ same_program a b p q = let whole : b ≡ record { declarations = a.declarations;
 pub one_program : {depth width : ℕ} {terminals : List Terminal} {a b : Program} → Spells depth width terminals a → Spells depth width terminals b → b ≡ a
 one_program {depth} {width} {terminals} {a} {b} first second =
     let all = one_all (ReadsDeclaration depth width) Anything (λ terminals r s a b x y h k. one_declaration x y) (λ terminals rest x h. tt) NoDeclaration (λ terminals rest x. declaration_begins) first.declarations second.declarations
-      (statements_begin first.statements) (statements_begin second.statements) in
+    (statements_begin first.statements) (statements_begin second.statements) in
     let bodies = one_list first.statements (subst (λ (ts : List Terminal). ReadsStatements width depth ts b.statements []) (sym all.1) second.statements) tt tt in
     same_program a b all.0 bodies.0

@@ -1,9 +1,7 @@
 -- Where kinds end, by what is wanted of them, they stop to be the prefix of a program, or nest too deep.
-use Rattle.std.proofs.Common.{◌≡◌, ℕ, zero, suc, ◌+◌, ◌-◌, ◌<◌, ◌≤◌, List, [], ◌∷◌, ◌++◌, length, take, Bool, true, false, refl, ap, sym, subst, ◌∙◌, arith, append_assoc, length-append, if◌then◌else◌}
+use Rattle.std.proofs.Common.{◌≡◌, ℕ, suc, ◌-◌, List, [], ◌∷◌, ◌++◌, length, take, refl, ap, sym, subst, ◌∙◌, arith, append_assoc, length-append}
 use Rattle.source_lexer.specs.declared.token.TokenKind.{TokenKind}
-use Rattle.source_lexer.specs.declared.token.TokenKind.TheVariants as kind
-use Rattle.source_parser.specs.Terminals.{Terminal, kinds_of}
-use Rattle.source_parser.specs.Prefixes.{SpellsKinds, IsProgram, IsPrefix, IsPrefixWithin, StopsAt, DeepAt}
+use Rattle.source_parser.specs.Prefixes.{SpellsKinds, IsPrefix, IsPrefixWithin, StopsAt, DeepAt}
 use Rattle.source_parser.specs.Wants.{Want, token, inner, fresh, sum_tail, term_tail, index, place_tail, statements, otherwise, declarations, locals, Move, stuck, deep, on, step, finish, run, Outcome, spelled, stopped, too_deep}
 use Rattle.source_parser.proofs.Forward.{reads_program}
 use Rattle.source_parser.proofs.KindNumbers.{plains, kinds_plain}
@@ -40,14 +38,14 @@ pub one_more : (width : ℕ) (s : List Want) (d w : ℕ) (k : TokenKind) (s' : L
     → step width k s d w ≡ on s' d' w' → Reached width s' d' w' before wants depth spare → Reached width s d w (k ∷ before) wants depth spare
 one_more width s d w k s' d' w' before wants depth spare e r =
     let larger : step (suc width) k s (suc d) (suc w) ≡ on s' (suc d') (suc w')
-      = subst (λ (m : Move). Grown m (step (suc width) k s (suc d) (suc w))) e (grown k s width d w) in
+    = subst (λ (m : Move). Grown m (step (suc width) k s (suc d) (suc w))) e (grown k s width d w) in
     record {
       moves = λ more. ap (Goes width k (before ++ more)) e ∙ r.moves more;
       fits = λ more f. (subst (Backs width k s d w) e (back width k s d w)) (plains (before ++ more)) (r.fits more f);
       wider = λ more f. (subst (Backs (suc width) k s (suc d) (suc w)) larger (back (suc width) k s (suc d) (suc w))) (plains (before ++ more)) (r.wider more f);
       shape = λ width' d'' w'' more h.
           let next = shape_on width' k (before ++ more) s' d' w' (step width' k s d'' w'')
-            (subst (λ (m : Move). Alike m (step width' k s d'' w'')) e (alike k s width d w width' d'' w'')) h in
+          (subst (λ (m : Move). Alike m (step width' k s d'' w'')) e (alike k s width d w width' d'' w'')) h in
           r.shape width' next.0 next.1 more next.2;
     }
 

@@ -1,5 +1,5 @@
 -- Worked rows of places: mistakes that people make, and the limits.
-use Rattle.std.specs.Prelude.{List, [], ◌∷◌, ◌++◌, replicate}
+use Rattle.std.specs.Prelude.{[], ◌∷◌, ◌++◌, replicate}
 use Rattle.std.proofs.Common.{refl}
 use Rattle.source_lexer.specs.declared.token.TokenKind.TheVariants as kind
 use Rattle.source_parser.specs.Limits.{depth_limit, weight_limit}

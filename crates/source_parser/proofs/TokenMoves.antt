@@ -1,5 +1,5 @@
 -- What single tokens do to what is wanted.
-use Rattle.std.proofs.Common.{◌≡◌, ◌⊎◌, inl, inr, ℕ, suc, ◌+◌, ◌-◌, ◌<◌, Bool, true, false, List, [], ◌∷◌, ◌++◌, refl, ap, sym, ◌∙◌, Option, Some, None, Result, Ok, Err, nat_eq, if◌then◌else◌, arith}
+use Rattle.std.proofs.Common.{◌≡◌, inl, inr, ℕ, suc, ◌-◌, ◌<◌, Bool, false, List, [], ◌∷◌, ◌++◌, refl, ap, sym, ◌∙◌, Option, Some, None, Result, Ok, Err, nat_eq, if◌then◌else◌, arith}
 use Rattle.std.proofs.lemmas.Bool.{eq-eqb}
 use Rattle.std.proofs.lemmas.Bool.Decides.{eqb_tells}
 use Rattle.std.specs.Result.{IsErrAnd}
@@ -12,7 +12,7 @@ use Rattle.source_parser.specs.declared.fault.Fault.TheVariants.{Stops, Deep, No
 use Rattle.source_parser.specs.Limits.{weight_limit}
 use Rattle.source_parser.specs.Terminals.{Terminal, identifier, literal, fixed, kind_of, kinds_of}
 use Rattle.source_parser.specs.Taking.{NotKind, Misses, Stands, ExpectsIdentifier, ExpectsLiteral}
-use Rattle.source_parser.specs.Wants.{Want, token, inner, close, statements, Move, stuck, deep, on, price, moved, step, Outcome, run, stopped, too_deep, number_of}
+use Rattle.source_parser.specs.Wants.{Want, token, inner, close, statements, stuck, deep, on, price, moved, step, Outcome, run, stopped, too_deep, number_of}
 use Rattle.source_parser.specs.Landings.{Leads, Comes, Lands, reads, no_memory, LandsNext, reads_one, lacks_memory}
 use Rattle.source_parser.proofs.KindNumbers.{same_kind}
 use Rattle.source_parser.proofs.Moves.{at_start, onward, gives_up, nests_too_deep, next_too_deep}
@@ -114,7 +114,7 @@ module _ {wants more : List Want} {old now new : List Terminal} {d w e v : ℕ} 
       (record {
         leads = λ s.
             ap (λ (ts : List Terminal). run weight_limit (kinds_of ts) (want ∷ s) e v) there
-            ∙ ap (λ (n : ℕ). run weight_limit (k ∷ kinds_of new) (want ∷ s) e n) spends ∙ goes s (kinds_of new)
+            ∙ ap (λ (n : ℕ). run weight_limit (k ∷ kinds_of new) (want ∷ s) e n) spends ∙ goes s (kinds_of new);
       }) so_far
 
   pub and_opening : {k : TokenKind} {line : ℕ} (others : List Want) → now ≡ fixed k line ∷ new → 0 < e
@@ -126,7 +126,7 @@ module _ {wants more : List Want} {old now new : List Terminal} {d w e v : ℕ} 
       (record {
         leads = λ s.
             ap (λ (ts : List Terminal). run weight_limit (kinds_of ts) (statements ∷ s) e v) there
-            ∙ ap (λ (n : ℕ). run weight_limit (k ∷ kinds_of new) (statements ∷ s) n v) less ∙ goes s (kinds_of new) (e - 1)
+            ∙ ap (λ (n : ℕ). run weight_limit (k ∷ kinds_of new) (statements ∷ s) n v) less ∙ goes s (kinds_of new) (e - 1);
       }) so_far
 
 -- what changes nothing but what is wanted
@@ -177,7 +177,7 @@ too_many {more = more} {now = now} {e = e} {v = v} {want = want} stands over own
       comes = λ s.
           ap (λ (n : ℕ). run weight_limit (kinds_of now) (want ∷ s) e n) stands.1
           ∙ ap (λ (ts : List Terminal). run weight_limit (kinds_of ts) (want ∷ s) e 0) there
-          ∙ over s (kinds_of stands.2.2) ∙ sym (ap (λ (ts : List Terminal). too_deep (kinds_of ts)) there)
+          ∙ over s (kinds_of stands.2.2) ∙ sym (ap (λ (ts : List Terminal). too_deep (kinds_of ts)) there);
     }) stands.0 stands.2.0 own so_far
 
 -- want of memory
@@ -213,7 +213,7 @@ block_too_deep {want = want} {old = old} {w = w} stands over own same =
       comes = λ s.
           ap (λ (n : ℕ). run weight_limit (kinds_of old) (want ∷ s) n w) stands.1
           ∙ ap (λ (ts : List Terminal). run weight_limit (kinds_of ts) (want ∷ s) 0 w) there
-          ∙ over s (kinds_of stands.2.2) ∙ sym (ap (λ (ts : List Terminal). too_deep (kinds_of ts)) there)
+          ∙ over s (kinds_of stands.2.2) ∙ sym (ap (λ (ts : List Terminal). too_deep (kinds_of ts)) there);
     }) stands.0 (stands.2.0 ∙ same) own
 
 -- a block that was opened and closed

@@ -1,7 +1,7 @@
 -- What is wanted next doesn't depend on the limits, and wider limits go further.
-use Rattle.std.proofs.Common.{◌≡◌, ℕ, zero, suc, List, [], ◌∷◌, Option, Some, None, Bool, true, false, refl, ap, sym, ◌∙◌}
+use Rattle.std.proofs.Common.{◌≡◌, ℕ, zero, suc, List, [], ◌∷◌, Option, Some, None, Bool, true, false, refl}
 use Rattle.source_lexer.specs.declared.token.TokenKind.{TokenKind}
-use Rattle.source_parser.specs.Wants.{Want, token, inner, close, fresh, outermost, sum, sum_tail, factor, Move, stuck, deep, on, step, expand, may_end, price, left, moved, pay, Price, free, weighs, opens, closes, in_expression}
+use Rattle.source_parser.specs.Wants.{Want, inner, sum, sum_tail, Move, stuck, deep, on, step, expand, may_end, price, left, moved, pay, Price, free, weighs, opens, closes}
 
 abbrev pub Alike : Move → Move → Type 0
 Alike stuck stuck = Unit {0}

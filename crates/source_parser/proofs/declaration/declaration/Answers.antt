@@ -1,4 +1,4 @@
-use Rattle.std.proofs.Common.{◌≡◌, List, [], ◌∷◌, ◌++◌, refl, sym, subst, ◌∙◌}
+use Rattle.std.proofs.Common.{◌≡◌, List, [], ◌∷◌, ◌++◌, refl, subst, ◌∙◌}
 use Rattle.source_lexer.specs.declared.token.TokenKind.TheVariants as kind
 use Rattle.source_parser.specs.Limits.{depth_limit, weight_limit}
 use Rattle.source_parser.specs.Terminals.{Terminal, kinds_of}
@@ -47,7 +47,7 @@ none_begins : {a b c e : List Terminal} → b ≡ a → c ≡ b → e ≡ c → 
     → Leads (wants.declarations ∷ []) a depth_limit weight_limit [] e depth_limit weight_limit
 none_begins {a} {b} {c} p q r no_var no_array no_proc =
     still (r ∙ q ∙ p) (instead [] (λ s. declarations_end weight_limit s depth_limit weight_limit (kinds_of a) no_var
-      (subst (λ (ts : List Terminal). NotKind kind.Array (kinds_of ts)) p no_array) (subst (λ (ts : List Terminal). NotKind kind.Proc (kinds_of ts)) (q ∙ p) no_proc)) at_start)
+    (subst (λ (ts : List Terminal). NotKind kind.Array (kinds_of ts)) p no_array) (subst (λ (ts : List Terminal). NotKind kind.Proc (kinds_of ts)) (q ∙ p) no_proc)) at_start)
 
 pub returns-clause-lands : goal.returns-clause-lands
 returns-clause-lands c =

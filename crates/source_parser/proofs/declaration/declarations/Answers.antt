@@ -17,9 +17,10 @@ returns-in_err-push-clause-lands c = no_memory_for c.from_residual-in_err-push.e
 pub loop-found-preserved : goal.loop-found-preserved
 loop-found-preserved c =
     let one = rw c.in-Some.is at c.in_ok-next.ensures.value in
-    let less = rw c.in-Some.is at c.in_ok-next.ensures.shorter in
-    (rw c.in_ok-push.ensures.ok (list_grows c.in-Some.next (λ more rest h. and_more one h) less c.loop-found.invariant.0),
-    and_again (rw c.in-Some.is at c.in_ok-next.ensures.lands) c.loop-found.invariant.1)
+    let less = rw c.in-Some.is at c.in_ok-next.ensures.shorter in (
+      rw c.in_ok-push.ensures.ok (list_grows c.in-Some.next (λ more rest h. and_more one h) less c.loop-found.invariant.0),
+      and_again (rw c.in-Some.is at c.in_ok-next.ensures.lands) c.loop-found.invariant.1,
+    )
 
 pub returns-clause-value : goal.returns-clause-value
 returns-clause-value c =

@@ -1,4 +1,4 @@
-use Rattle.std.proofs.Common.{◌≡◌, ◌<◌, [], ◌∷◌, ◌++◌, length, refl, arith}
+use Rattle.std.proofs.Common.{◌<◌, [], ◌∷◌, ◌++◌, length, refl, arith}
 use Rattle.source_tree.specs.declared.declaration.Local.{Local}
 use Rattle.source_parser.specs.Limits.{weight_limit}
 use Rattle.source_parser.specs.Terminals.{kinds_of}
@@ -33,11 +33,12 @@ pub loop-line-preserved : goal.loop-line-preserved
 loop-line-preserved c =
     let found = c.in_ok-name.field-0 in
     let whole : Local = record { name = found.name; range = found.range; line = c.in-Some.line } in
-    let less : length c.expect.new.self < length c.loop-line.reader = omega (arith, c.in-Some.ensures.shorter, c.in_ok-name.ensures.shorter, c.in_ok-expect.ensures.shorter) in
-    (rw c.in_ok-push.ensures.ok (list_grows whole
-      (λ more rest h. rw c.in-Some.ensures.value (and_more (local (rw c.in_ok-expect.ensures.value at c.in_ok-name.ensures.value)) h)) less c.loop-line.invariant.0),
-    λ d. and_token c.in_ok-expect.ensures.value (and_then _ (c.in_ok-name.ensures.lands d _)
-      (and_taken (wants.param_wanted ++ wants.token kind.Semicolon ∷ wants.locals ∷ []) c.in-Some.ensures.value (λ s ks. refl) (c.loop-line.invariant.1 d))))
+    let less : length c.expect.new.self < length c.loop-line.reader = omega (arith, c.in-Some.ensures.shorter, c.in_ok-name.ensures.shorter, c.in_ok-expect.ensures.shorter) in (
+      rw c.in_ok-push.ensures.ok (list_grows whole
+          (λ more rest h. rw c.in-Some.ensures.value (and_more (local (rw c.in_ok-expect.ensures.value at c.in_ok-name.ensures.value)) h)) less c.loop-line.invariant.0),
+      λ d. and_token c.in_ok-expect.ensures.value (and_then _ (c.in_ok-name.ensures.lands d _)
+          (and_taken (wants.param_wanted ++ wants.token kind.Semicolon ∷ wants.locals ∷ []) c.in-Some.ensures.value (λ s ks. refl) (c.loop-line.invariant.1 d))),
+    )
 
 pub returns-clause-value : goal.returns-clause-value
 returns-clause-value c = let end = c.in_default.ensures.value in rw end.0 (list_ends none c.loop-line.invariant.0)

@@ -8,8 +8,8 @@ use Rattle.source_parser.proofs.declaration.locals.Given as goal
 
 abbrev pub invariant-loop-line : goal.invariant-loop-line
 invariant-loop-line l =
-  Listing (ReadsAll ReadsLocal) l.fn.reader l.found l.reader
-  × ((depth : ℕ) → Leads (wants.locals ∷ []) l.fn.reader depth weight_limit (wants.locals ∷ []) l.reader depth weight_limit)
+    Listing (ReadsAll ReadsLocal) l.fn.reader l.found l.reader
+    × ((depth : ℕ) → Leads (wants.locals ∷ []) l.fn.reader depth weight_limit (wants.locals ∷ []) l.reader depth weight_limit)
 
 abbrev pub decreases-loop-line : goal.decreases-loop-line
 decreases-loop-line l = length l.reader

@@ -8,8 +8,8 @@ use Rattle.source_parser.proofs.declaration.params.Given as goal
 
 abbrev pub invariant-loop-alloc : goal.invariant-loop-alloc
 invariant-loop-alloc l =
-  Gathering ReadsParam l.fn.reader l.found l.reader
-  × ((depth spare : ℕ) → Leads (wants.params ∷ []) l.fn.reader depth spare (wants.more_params ∷ []) l.reader depth weight_limit)
+    Gathering ReadsParam l.fn.reader l.found l.reader
+    × ((depth spare : ℕ) → Leads (wants.params ∷ []) l.fn.reader depth spare (wants.more_params ∷ []) l.reader depth weight_limit)
 
 abbrev pub decreases-loop-alloc : goal.decreases-loop-alloc
 decreases-loop-alloc l = length l.reader

@@ -1,4 +1,3 @@
-use Rattle.std.proofs.Common.{◌∷◌}
 use Rattle.source_parser.specs.Limits.{depth_limit}
 use Rattle.source_parser.specs.Grammar as grammar
 use Rattle.source_parser.specs.Landings.{reads}

@@ -1,4 +1,4 @@
-use Rattle.std.proofs.Common.{◌≡◌, ℕ, suc, ◌+◌, ◌<◌, List, [], ◌∷◌, length, Result, Ok, Err, refl, sym, ap, subst, ◌∙◌, not, arith, rules}
+use Rattle.std.proofs.Common.{◌≡◌, ℕ, suc, List, [], ◌∷◌, length, Result, Ok, Err, refl, sym, ap, subst, ◌∙◌, not, arith, rules}
 use Rattle.std.specs.Prelude.{ℤ, IfOk}
 use Rattle.std.specs.Int.{w128}
 use Rattle.std.specs.Int.RustNames.{FitsSigned}
@@ -7,16 +7,15 @@ use Rattle.source_lexer.specs.declared.token.TokenKind.{TokenKind}
 use Rattle.source_lexer.specs.declared.token.TokenKind.TheVariants as kind
 use Rattle.source_tree.specs.declared.name.Name.{Name}
 use Rattle.source_tree.specs.declared.expression.Operator.{Operator}
-use Rattle.source_tree.specs.declared.expression.Expr.{Expr, Number, Element, Neg, Binary}
+use Rattle.source_tree.specs.declared.expression.Expr.{Expr, Number, Element, Neg}
 use Rattle.source_parser.specs.declared.fault.Fault.{Fault}
 use Rattle.source_parser.specs.Limits.{weight_limit}
 use Rattle.source_parser.specs.Terminals.{Terminal, identifier, literal, fixed, kinds_of}
-use Rattle.source_parser.specs.Grammar.{Level, factor, term, sum, Joins, ReadsExpr, number, name, element, negated, bracketed, one_factor, multiplied, one_term, added, weight}
-use Rattle.source_parser.specs.Landings.{Leads, Comes, Lands, reads}
+use Rattle.source_parser.specs.Grammar.{Level, factor, sum, Joins, ReadsExpr, number, name, element, negated, bracketed, one_factor, multiplied, one_term, added, weight}
+use Rattle.source_parser.specs.Landings.{Comes, reads}
 use Rattle.source_parser.specs.Taking.{NotKind}
 use Rattle.source_parser.specs.Wants as wants
 use Rattle.source_parser.specs.Wants.{stopped}
-use Rattle.source_parser.proofs.LoopInvariants.{Joining}
 use Rattle.source_parser.proofs.Forward.{weight_joins}
 use Rattle.source_parser.proofs.Moves.{at_start, and_then, ends_with, fails}
 use Rattle.source_parser.proofs.Runs.{sum_begins, term_begins, sum_goes, term_goes, sum_deep, term_deep, sum_ends, term_ends, index_ends}
@@ -53,7 +52,7 @@ no_factor {e = e} {d = d} {w = w} p q r no_minus no_paren no_number no_name =
     let at_e = λ (k : TokenKind) (ts : List Terminal) (same : ts ≡ e) (missing : NotKind k (kinds_of ts)). subst (λ (xs : List Terminal). NotKind k (kinds_of xs)) same missing in
     record {
       comes = λ s. runs.no_factor weight_limit s d w (kinds_of e) (at_e kind.Minus _ (sym (r ∙ q ∙ p)) no_minus) (at_e kind.LeftParen _ (sym (r ∙ q)) no_paren)
-        (at_e kind.Number _ (sym r) no_number) no_name
+          (at_e kind.Number _ (sym r) no_number) no_name;
     }
 
 pub factor-returns-in_err-line-clause-lands : goal.factor-returns-in_err-line-clause-lands

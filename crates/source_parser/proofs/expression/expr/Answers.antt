@@ -5,7 +5,6 @@ use Rattle.source_parser.specs.declared.fault.Fault.{Fault}
 use Rattle.source_parser.specs.Limits.{weight_limit}
 use Rattle.source_parser.specs.Terminals.{Terminal, kinds_of}
 use Rattle.source_parser.specs.Grammar.{sum, weight, ReadsExpr, ReadsOutermost}
-use Rattle.source_parser.specs.Landings.{Leads, Lands, reads, stops, deepens, no_memory}
 use Rattle.source_parser.specs.Wants as wants
 use Rattle.source_parser.proofs.Moves.{at_start, within}
 use Rattle.source_parser.proofs.Runs.{outermost_begins, fresh_ends}

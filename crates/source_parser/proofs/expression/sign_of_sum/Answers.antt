@@ -1,7 +1,5 @@
-use Rattle.std.proofs.Common.{◌≡◌, refl, subst, ◌∙◌, List}
+use Rattle.std.proofs.Common.{refl}
 use Rattle.std.proofs.lemmas.Result.{err_from_is_err_and}
-use Rattle.source_lexer.specs.declared.token.TokenKind.TheVariants as kind
-use Rattle.source_parser.specs.Terminals.{Terminal}
 use Rattle.source_parser.specs.Grammar as g
 use Rattle.source_parser.proofs.Taken.{operator_found, operator_past_limit}
 use Rattle.source_parser.proofs.expression.sign_of_sum.Goals as goal

@@ -1,4 +1,3 @@
-use Rattle.std.proofs.Common.{[], ◌≡◌, refl}
 use Rattle.source_lexer.specs.Scan.{whole}
 use Rattle.source_lexer.proofs.PlacedTokens.{placed_tokens}
 use Rattle.source_parser.specs.Limits.{depth_limit, weight_limit}

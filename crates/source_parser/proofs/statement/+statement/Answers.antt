@@ -316,8 +316,8 @@ none_begins : {depth : ℕ} {a b c e f g h : List Terminal} → b ≡ a → c �
 none_begins {depth} {a} p q r t u v no_print no_read no_if no_for no_while no_name =
     let at_a = λ (k : TokenKind) (ts : List Terminal) (same : ts ≡ a) (not : NotKind k (kinds_of ts)). subst (λ (xs : List Terminal). NotKind k (kinds_of xs)) same not in
     still (v ∙ u ∙ t ∙ r ∙ q ∙ p) (instead [] (λ s. statements_end weight_limit s depth weight_limit (kinds_of a)
-      no_print (at_a kind.Read _ p no_read) (at_a kind.If _ (q ∙ p) no_if) (at_a kind.For _ (r ∙ q ∙ p) no_for) (at_a kind.While _ (t ∙ r ∙ q ∙ p) no_while)
-      (at_a kind.Name _ (u ∙ t ∙ r ∙ q ∙ p) no_name)) at_start)
+    no_print (at_a kind.Read _ p no_read) (at_a kind.If _ (q ∙ p) no_if) (at_a kind.For _ (r ∙ q ∙ p) no_for) (at_a kind.While _ (t ∙ r ∙ q ∙ p) no_while)
+    (at_a kind.Name _ (u ∙ t ∙ r ∙ q ∙ p) no_name)) at_start)
 
 pub statement-returns-in-None-clause-value : goal.statement-returns-in-None-clause-value
 statement-returns-in-None-clause-value t c =
@@ -350,9 +350,10 @@ statements-returns-in_err-push-clause-lands t c = no_memory_for c.from_residual-
 pub statements-loop-found-preserved : goal.statements-loop-found-preserved
 statements-loop-found-preserved t c =
     let one = rw c.in-Some.is at c.in_ok-next.ensures.value in
-    let less = rw c.in-Some.is at c.in_ok-next.ensures.shorter in
-    (rw c.in_ok-push.ensures.ok (list_grows c.in-Some.next (λ more rest h. grammar.statements one h) less c.loop-found.invariant.0),
-    and_again (rw c.in-Some.is at c.in_ok-next.ensures.lands) c.loop-found.invariant.1)
+    let less = rw c.in-Some.is at c.in_ok-next.ensures.shorter in (
+      rw c.in_ok-push.ensures.ok (list_grows c.in-Some.next (λ more rest h. grammar.statements one h) less c.loop-found.invariant.0),
+      and_again (rw c.in-Some.is at c.in_ok-next.ensures.lands) c.loop-found.invariant.1,
+    )
 
 pub statements-returns-clause-value : goal.statements-returns-clause-value
 statements-returns-clause-value t c =

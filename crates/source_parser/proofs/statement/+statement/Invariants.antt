@@ -32,8 +32,8 @@ decreases-body l = length l.reader.now * 4 + 3
 
 abbrev pub invariant-statements-loop-found : goal.invariant-statements-loop-found
 invariant-statements-loop-found l =
-  Listing (ReadsStatements weight_limit l.depth) l.fn.reader l.found l.reader
-  × Leads (wants.statements ∷ []) l.fn.reader l.depth weight_limit (wants.statements ∷ []) l.reader l.depth weight_limit
+    Listing (ReadsStatements weight_limit l.depth) l.fn.reader l.found l.reader
+    × Leads (wants.statements ∷ []) l.fn.reader l.depth weight_limit (wants.statements ∷ []) l.reader l.depth weight_limit
 
 abbrev pub decreases-statements-loop-found : goal.decreases-statements-loop-found
 decreases-statements-loop-found l = length l.reader

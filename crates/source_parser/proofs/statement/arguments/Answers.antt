@@ -1,4 +1,4 @@
-use Rattle.std.proofs.Common.{[], ◌∷◌, ◌++◌, List, refl, ap, sym, ◌∙◌}
+use Rattle.std.proofs.Common.{[], ◌∷◌, ◌++◌, List, refl, ap, ◌∙◌}
 use Rattle.source_lexer.specs.declared.token.TokenKind.TheVariants as kind
 use Rattle.source_tree.specs.declared.expression.Expr.{Expr}
 use Rattle.source_parser.specs.Limits.{weight_limit}
@@ -36,10 +36,11 @@ pub loop-alloc-init : goal.loop-alloc-init
 loop-alloc-init c =
     let open_ = not_taken kind.RightParen c.args.reader.now c.take.result c.take.new.self c.take.ensures.value c.if-is_some.ensures in
     let first = c.in_ok-expr.field-0 in
-    let pushed = c.in_ok-push.ensures.ok ∙ ap (λ (found : List Expr). found ++ first ∷ []) c.new-found.ensures in
-    (rw pushed (commas_start first (rw open_.0 at c.in_ok-expr.ensures.value) (rw open_.0 at c.in_ok-expr.ensures.shorter)),
-    λ d w. and_then _ (c.in_ok-expr.ensures.lands d w)
-      (still open_.0 (instead (wants.outermost ∷ wants.commas ∷ []) (λ s. listed_begins weight_limit s d w (kinds_of c.args.reader.now) open_.1) at_start)))
+    let pushed = c.in_ok-push.ensures.ok ∙ ap (λ (found : List Expr). found ++ first ∷ []) c.new-found.ensures in (
+      rw pushed (commas_start first (rw open_.0 at c.in_ok-expr.ensures.value) (rw open_.0 at c.in_ok-expr.ensures.shorter)),
+      λ d w. and_then _ (c.in_ok-expr.ensures.lands d w)
+          (still open_.0 (instead (wants.outermost ∷ wants.commas ∷ []) (λ s. listed_begins weight_limit s d w (kinds_of c.args.reader.now) open_.1) at_start)),
+    )
 
 pub returns-in_err-expr-2-clause-lands : goal.returns-in_err-expr-2-clause-lands
 returns-in_err-expr-2-clause-lands c = λ d w.
@@ -52,9 +53,10 @@ returns-in_err-push-2-clause-lands c = λ d w. no_memory_for c.from_residual-in_
 
 pub loop-alloc-preserved : goal.loop-alloc-preserved
 loop-alloc-preserved c =
-    let sign = taken kind.Comma c.loop-alloc.reader c.take-in-loop-alloc.result c.take-in-loop-alloc.new.self c.take-in-loop-alloc.ensures.value c.loop-alloc-test.ensures in
-    (rw c.in_ok-push-2.ensures.ok (commas_grow c.in_ok-expr-2.field-0 sign.1 c.in_ok-expr-2.ensures.value c.in_ok-expr-2.ensures.shorter c.loop-alloc.invariant.0),
-    λ d w. and_then _ (c.in_ok-expr-2.ensures.lands d _) (and_taken (wants.outermost ∷ wants.commas ∷ []) sign.1 (λ s ks. refl) (c.loop-alloc.invariant.1 d w)))
+    let sign = taken kind.Comma c.loop-alloc.reader c.take-in-loop-alloc.result c.take-in-loop-alloc.new.self c.take-in-loop-alloc.ensures.value c.loop-alloc-test.ensures in (
+      rw c.in_ok-push-2.ensures.ok (commas_grow c.in_ok-expr-2.field-0 sign.1 c.in_ok-expr-2.ensures.value c.in_ok-expr-2.ensures.shorter c.loop-alloc.invariant.0),
+      λ d w. and_then _ (c.in_ok-expr-2.ensures.lands d _) (and_taken (wants.outermost ∷ wants.commas ∷ []) sign.1 (λ s ks. refl) (c.loop-alloc.invariant.1 d w)),
+    )
 
 pub returns-in_err-expect-clause-lands : goal.returns-in_err-expect-clause-lands
 returns-in_err-expect-clause-lands c = λ d w.

@@ -1,4 +1,4 @@
-use Rattle.std.proofs.Common.{◌≡◌, refl, sym, ◌∙◌}
+use Rattle.std.proofs.Common.{refl, sym, ◌∙◌}
 use Rattle.std.proofs.lemmas.Result.{err_from_is_err_and}
 use Rattle.source_lexer.specs.declared.token.TokenKind.TheVariants as kind
 use Rattle.source_parser.specs.Grammar as g
@@ -44,8 +44,11 @@ returns-in_err-expect-clause-value c =
     let no_equal = not_taken kind.Equal c.take-else-is_some-3.new.self c.take-else-is_some-4.result c.take-else-is_some-4.new.self c.take-else-is_some-4.ensures.value (sym (sym c.is_some-else-is_some-4.ensures ∙ c.if-is_some-5.false)) in
     let missing = c.in_err-expect.ensures.value in
     let failed = err_from_is_err_and c.from_residual.result c.from_residual.ensures.1 in
-    rw (failed.1, failed.2) (missing.0, missing.1.0 ∙ no_equal.0 ∙ no_greater_equal.0 ∙ no_greater.0 ∙ no_less_equal.0 ∙ no_less.0,
-    no_comparison no_less.0 no_less_equal.0 no_greater.0 no_greater_equal.0 no_equal.0 no_less.1 no_less_equal.1 no_greater.1 no_greater_equal.1 no_equal.1 missing.1.1)
+    rw (failed.1, failed.2) (
+      missing.0,
+      missing.1.0 ∙ no_equal.0 ∙ no_greater_equal.0 ∙ no_greater.0 ∙ no_less_equal.0 ∙ no_less.0,
+      no_comparison no_less.0 no_less_equal.0 no_greater.0 no_greater_equal.0 no_equal.0 no_less.1 no_less_equal.1 no_greater.1 no_greater_equal.1 no_equal.1 missing.1.1,
+    )
 
 pub returns-in_ok-expect-clause-value : goal.returns-in_ok-expect-clause-value
 returns-in_ok-expect-clause-value c =

@@ -1,4 +1,4 @@
-use Rattle.std.proofs.Common.{[], ◌∷◌, ap, ◌∙◌}
+use Rattle.std.proofs.Common.{[], ◌∷◌}
 use Rattle.source_parser.specs.Limits.{weight_limit}
 use Rattle.source_parser.specs.Terminals.{kinds_of}
 use Rattle.source_parser.specs.Grammar as grammar

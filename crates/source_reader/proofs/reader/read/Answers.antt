@@ -1,4 +1,3 @@
-use Rattle.std.proofs.Common.{arith}
 use Rattle.source_reader.proofs.reader.read.Goals as goal
 
 pub returns-in-Err-Stops-clause-read : goal.returns-in-Err-Stops-clause-read
