@@ -10,7 +10,7 @@ use Rattle.source_parser.specs.Grammar.{ReadsStatement, assign, print, read, if_
 use Rattle.source_parser.specs.Wants.{Want, token, inner, close, fresh, outermost, sum, sum_tail, term, term_tail, factor, index, comparison, listed, commas, place_tail, after_name, statements, otherwise, declarations, bound, params, more_params, locals}
 use Rattle.source_parser.specs.Wants.{Move, stuck, deep, on, step, price, moved, number_of}
 use Rattle.source_parser.proofs.KindNumbers.{plain, same_kind}
-use Rattle.source_parser.proofs.Completions.{Stands, Followed, IsPlain, Sign, Fits}
+use Rattle.source_parser.proofs.Completions.{HasTree, Followed, IsPlain, Sign, Fits}
 
 abbrev pub Backs : ℕ → TokenKind → List Want → ℕ → ℕ → Move → Type 0
 Backs width k s d w stuck = Unit {0}
@@ -101,8 +101,8 @@ inner_back width k j s d w false e = tt
 inner_back width k j s d w true e = λ terminals f. record { rest = terminals; reads = ap (λ (x : TokenKind). plain x ∷ terminals) (sym (same_kind k j e)); behind = f }
 
 -- ---- parts put together
-condition_of : (width : ℕ) (B : List Terminal → Type 0) (terminals : List Terminal) → Followed (Stands (ReadsOutermost width)) (Followed Sign (Followed (Stands (ReadsOutermost width)) B)) terminals
-    → Followed (Stands (ReadsCondition width)) B terminals
+condition_of : (width : ℕ) (B : List Terminal → Type 0) (terminals : List Terminal) → Followed (HasTree (ReadsOutermost width)) (Followed Sign (Followed (HasTree (ReadsOutermost width)) B)) terminals
+    → Followed (HasTree (ReadsCondition width)) B terminals
 condition_of width B terminals f =
     let sign = f.behind.reads in
     record {
@@ -111,7 +111,7 @@ condition_of width B terminals f =
       behind = f.behind.behind.behind;
     }
 
-range_of : (B : List Terminal → Type 0) (terminals : List Terminal) → Followed (Stands ReadsBound) (Followed (IsPlain kind.Dots) (Followed (Stands ReadsBound) B)) terminals → Followed (Stands ReadsRange) B terminals
+range_of : (B : List Terminal → Type 0) (terminals : List Terminal) → Followed (HasTree ReadsBound) (Followed (IsPlain kind.Dots) (Followed (HasTree ReadsBound) B)) terminals → Followed (HasTree ReadsRange) B terminals
 range_of B terminals f = record {
   rest = f.behind.behind.rest;
   reads = record { tree = _; reads = g.range (rw f.behind.reads at f.reads.reads) f.behind.behind.reads.reads };
@@ -119,13 +119,13 @@ range_of B terminals f = record {
 }
 
 param_of : (B : List Terminal → Type 0) (terminals : List Terminal)
-    → Followed (IsPlain kind.Name) (Followed (IsPlain kind.Colon) (Followed (Stands ReadsBound) (Followed (IsPlain kind.Dots) (Followed (Stands ReadsBound) B)))) terminals → Followed (Stands ReadsParam) B terminals
+    → Followed (IsPlain kind.Name) (Followed (IsPlain kind.Colon) (Followed (HasTree ReadsBound) (Followed (IsPlain kind.Dots) (Followed (HasTree ReadsBound) B)))) terminals → Followed (HasTree ReadsParam) B terminals
 param_of B terminals f =
     let r = range_of B f.behind.rest f.behind.behind in
     let front : terminals ≡ plain kind.Name ∷ plain kind.Colon ∷ f.behind.rest = f.reads ∙ ap (λ (x : List Terminal). plain kind.Name ∷ x) f.behind.reads in
     record {
       rest = r.rest;
-      reads = subst (λ (x : List Terminal). Stands ReadsParam x r.rest) (sym front) (record { tree = _; reads = param r.reads.reads });
+      reads = subst (λ (x : List Terminal). HasTree ReadsParam x r.rest) (sym front) (record { tree = _; reads = param r.reads.reads });
       behind = r.behind;
     }
 
@@ -153,7 +153,7 @@ back_statements width kind.Read s d w h = λ terminals f.
     let more = place.behind.behind in
     record {
       rest = more.rest;
-      reads = subst (λ (x : List Terminal). Stands (ReadsStatements width d) (plain kind.Read ∷ x) more.rest) (sym f.reads)
+      reads = subst (λ (x : List Terminal). HasTree (ReadsStatements width d) (plain kind.Read ∷ x) more.rest) (sym f.reads)
           (record { tree = _; reads = g.statements (read (rw place.behind.reads at place.reads.reads)) more.reads.reads });
       behind = more.behind;
     }
@@ -180,7 +180,7 @@ back_statements width kind.For s (suc d) w h = λ terminals f.
     let front : terminals ≡ plain kind.Name ∷ plain kind.Becomes ∷ f.behind.rest = f.reads ∙ ap (λ (x : List Terminal). plain kind.Name ∷ x) f.behind.reads in
     record {
       rest = more.rest;
-      reads = subst (λ (x : List Terminal). Stands (ReadsStatements width (suc d)) (plain kind.For ∷ x) more.rest) (sym front)
+      reads = subst (λ (x : List Terminal). HasTree (ReadsStatements width (suc d)) (plain kind.For ∷ x) more.rest) (sym front)
           (record {
             tree = _;
             reads = g.statements (for_statement (rw from.behind.reads at from.reads.reads) (rw to.behind.reads at to.reads.reads) (rw body.behind.reads at body.reads.reads)) more.reads.reads;
@@ -224,7 +224,7 @@ back_declarations width kind.Array s d w h = λ terminals f.
     ∙ ap (λ (x : List Terminal). plain kind.Name ∷ plain kind.LeftBracket ∷ plain kind.Number ∷ plain kind.RightBracket ∷ x) f.behind.behind.behind.behind.reads in
     record {
       rest = more.rest;
-      reads = subst (λ (x : List Terminal). Stands (ReadsAll (ReadsDeclaration d width)) (plain kind.Array ∷ x) more.rest) (sym front)
+      reads = subst (λ (x : List Terminal). HasTree (ReadsAll (ReadsDeclaration d width)) (plain kind.Array ∷ x) more.rest) (sym front)
           (record { tree = _; reads = and_more (array (rw r.behind.reads at r.reads.reads)) more.reads.reads });
       behind = more.behind;
     }
@@ -236,7 +236,7 @@ back_declarations width kind.Proc s d w h = λ terminals f.
     let front : terminals ≡ plain kind.Name ∷ plain kind.LeftParen ∷ f.behind.rest = f.reads ∙ ap (λ (x : List Terminal). plain kind.Name ∷ x) f.behind.reads in
     record {
       rest = more.rest;
-      reads = subst (λ (x : List Terminal). Stands (ReadsAll (ReadsDeclaration d width)) (plain kind.Proc ∷ x) more.rest) (sym front)
+      reads = subst (λ (x : List Terminal). HasTree (ReadsAll (ReadsDeclaration d width)) (plain kind.Proc ∷ x) more.rest) (sym front)
           (record {
             tree = _;
             reads = and_more (proc params_.reads.reads (rw locals_.behind.reads at locals_.reads.reads) (rw body.behind.reads at body.reads.reads)) more.reads.reads;
@@ -253,7 +253,7 @@ back_params width kind.Name s d w = λ terminals f.
     let all = r.behind.reads (plain kind.Name ∷ plain kind.Colon ∷ f.rest) _ (param r.reads.reads) in
     record {
       rest = r.behind.rest;
-      reads = subst (λ (x : List Terminal). Stands (ReadsListed ReadsParam) (plain kind.Name ∷ x) r.behind.rest) (sym f.reads) (record { tree = all.tree; reads = things all.reads });
+      reads = subst (λ (x : List Terminal). HasTree (ReadsListed ReadsParam) (plain kind.Name ∷ x) r.behind.rest) (sym f.reads) (record { tree = all.tree; reads = things all.reads });
       behind = r.behind.behind;
     }
 back_params width k s d w = tt
@@ -347,7 +347,7 @@ back_commas width k s d w = tt
 back_bound : (width : ℕ) (k : TokenKind) (s : List Want) (d w : ℕ) → Backs width k (bound ∷ s) d w (step width k (bound ∷ s) d w)
 back_bound width kind.Number s d w = λ terminals f. record { rest = terminals; reads = record { tree = _; reads = unsigned }; behind = f }
 back_bound width kind.Minus s d w = λ terminals f.
-    record { rest = f.rest; reads = subst (λ (x : List Terminal). Stands ReadsBound (plain kind.Minus ∷ x) f.rest) (sym f.reads) (record { tree = _; reads = signed }); behind = f.behind }
+    record { rest = f.rest; reads = subst (λ (x : List Terminal). HasTree ReadsBound (plain kind.Minus ∷ x) f.rest) (sym f.reads) (record { tree = _; reads = signed }); behind = f.behind }
 back_bound width k s d w = tt
 
 back_else : (width : ℕ) (k : TokenKind) (s : List Want) (d w : ℕ) → Backs width k s d width (step width k s d width) → Backs width k (otherwise ∷ s) d w (step width k (otherwise ∷ s) d w)

@@ -11,8 +11,8 @@ use Rattle.source_parser.specs.Grammar.{Compares, less, less_equal, greater, gre
 use Rattle.source_parser.specs.Grammar.{ReadsStatement, assign, print, read, if_statement, for_statement, while_statement, call, ReadsStatements, no_statement, ReadsElse, no_else, other, ReadsBound, unsigned, signed, ReadsRange, ReadsParam, param, ReadsLocal, ReadsDeclaration, var, array, proc, Spells}
 use Rattle.source_parser.specs.Wants.{Want, token, inner, close, fresh, outermost, sum, sum_tail, term, term_tail, factor, index, comparison, listed, commas, place_tail, after_name, statements, otherwise, declarations, bound, params, more_params, locals}
 
--- something of the grammar, whatever its tree
-pub record Stands {A : Type 0} (Reads : List Terminal → A → List Terminal → Type 0) (terminals rest : List Terminal) : Type 0 where
+-- a thing of the grammar, whatever its tree
+pub record HasTree {A : Type 0} (Reads : List Terminal → A → List Terminal → Type 0) (terminals rest : List Terminal) : Type 0 where
   pub tree : A
   pub reads : Reads terminals tree rest
 
@@ -24,6 +24,7 @@ pub record FollowedWithin (Reads : List Terminal → List Terminal → Type 0) (
   pub weighs : weight terminals + spare ≡ weight rest + w
   pub behind : After spare rest
 
+-- a thing, and what is after it
 pub record Followed (Reads : List Terminal → List Terminal → Type 0) (After : List Terminal → Type 0) (terminals : List Terminal) : Type 0 where
   pub rest : List Terminal
   pub reads : Reads terminals rest
@@ -31,11 +32,13 @@ pub record Followed (Reads : List Terminal → List Terminal → Type 0) (After 
 
 -- what may stand behind a thing and make it longer
 abbrev pub Longer : {A B : Type 0} → (List Terminal → A → List Terminal → Type 0) → (List Terminal → B → List Terminal → Type 0) → List Terminal → List Terminal → Type 0
-Longer First Whole terminals rest = (old : List Terminal) (first : _) → First old first terminals → Stands Whole old rest
+Longer First Whole terminals rest = (old : List Terminal) (first : _) → First old first terminals → HasTree Whole old rest
 
+-- a terminal of a kind
 abbrev pub IsPlain : TokenKind → List Terminal → List Terminal → Type 0
 IsPlain k terminals rest = terminals ≡ plain k ∷ rest
 
+-- a comparison
 pub record Sign (terminals rest : List Terminal) : Type 0 where
   pub sign : TokenKind
   pub test : Comparison
@@ -50,25 +53,25 @@ Fits width (token k ∷ s) d w terminals = Followed (IsPlain k) (Fits width s d 
 Fits width (inner k ∷ s) d w terminals = Followed (IsPlain k) (Fits width s d w) terminals
 Fits width (close ∷ s) d w terminals = Followed (IsPlain kind.End) (Fits width s (suc d) width) terminals
 Fits width (fresh ∷ s) d w terminals = Fits width s d width terminals
-Fits width (outermost ∷ s) d w terminals = Followed (Stands (ReadsOutermost width)) (Fits width s d width) terminals
-Fits width (sum ∷ s) d w terminals = FollowedWithin (Stands (ReadsExpr g.sum)) (Fits width s d) w terminals
+Fits width (outermost ∷ s) d w terminals = Followed (HasTree (ReadsOutermost width)) (Fits width s d width) terminals
+Fits width (sum ∷ s) d w terminals = FollowedWithin (HasTree (ReadsExpr g.sum)) (Fits width s d) w terminals
 Fits width (sum_tail ∷ s) d w terminals = FollowedWithin (Longer (ReadsExpr g.sum) (ReadsExpr g.sum)) (Fits width s d) w terminals
-Fits width (term ∷ s) d w terminals = FollowedWithin (Stands (ReadsExpr g.term)) (Fits width s d) w terminals
+Fits width (term ∷ s) d w terminals = FollowedWithin (HasTree (ReadsExpr g.term)) (Fits width s d) w terminals
 Fits width (term_tail ∷ s) d w terminals = FollowedWithin (Longer (ReadsExpr g.term) (ReadsExpr g.term)) (Fits width s d) w terminals
-Fits width (factor ∷ s) d w terminals = FollowedWithin (Stands (ReadsExpr g.factor)) (Fits width s d) w terminals
-Fits width (index ∷ s) d w terminals = FollowedWithin (λ xs. Stands (ReadsExpr g.factor) (plain kind.Name ∷ xs)) (Fits width s d) w terminals
+Fits width (factor ∷ s) d w terminals = FollowedWithin (HasTree (ReadsExpr g.factor)) (Fits width s d) w terminals
+Fits width (index ∷ s) d w terminals = FollowedWithin (λ xs. HasTree (ReadsExpr g.factor) (plain kind.Name ∷ xs)) (Fits width s d) w terminals
 Fits width (comparison ∷ s) d w terminals = Followed Sign (Fits width s d width) terminals
-Fits width (listed ∷ s) d w terminals = Followed (Stands (ReadsListed (ReadsOutermost width))) (Fits width s d width) terminals
+Fits width (listed ∷ s) d w terminals = Followed (HasTree (ReadsListed (ReadsOutermost width))) (Fits width s d width) terminals
 Fits width (commas ∷ s) d w terminals = Followed (Longer (ReadsOutermost width) (ReadsCommas (ReadsOutermost width))) (Fits width s d width) terminals
-Fits width (place_tail ∷ s) d w terminals = Followed (λ xs. Stands (ReadsPlace width) (plain kind.Name ∷ xs)) (Fits width s d width) terminals
-Fits width (after_name ∷ s) d w terminals = Followed (λ xs. Stands (ReadsStatement width d) (plain kind.Name ∷ xs)) (Fits width s d width) terminals
-Fits width (statements ∷ s) d w terminals = Followed (Stands (ReadsStatements width d)) (Fits width s d width) terminals
-Fits width (otherwise ∷ s) d w terminals = Followed (Stands (ReadsElse width d)) (Fits width s d width) terminals
-Fits width (declarations ∷ s) d w terminals = Followed (Stands (ReadsAll (ReadsDeclaration d width))) (Fits width s d width) terminals
-Fits width (bound ∷ s) d w terminals = Followed (Stands ReadsBound) (Fits width s d width) terminals
-Fits width (params ∷ s) d w terminals = Followed (Stands (ReadsListed ReadsParam)) (Fits width s d width) terminals
+Fits width (place_tail ∷ s) d w terminals = Followed (λ xs. HasTree (ReadsPlace width) (plain kind.Name ∷ xs)) (Fits width s d width) terminals
+Fits width (after_name ∷ s) d w terminals = Followed (λ xs. HasTree (ReadsStatement width d) (plain kind.Name ∷ xs)) (Fits width s d width) terminals
+Fits width (statements ∷ s) d w terminals = Followed (HasTree (ReadsStatements width d)) (Fits width s d width) terminals
+Fits width (otherwise ∷ s) d w terminals = Followed (HasTree (ReadsElse width d)) (Fits width s d width) terminals
+Fits width (declarations ∷ s) d w terminals = Followed (HasTree (ReadsAll (ReadsDeclaration d width))) (Fits width s d width) terminals
+Fits width (bound ∷ s) d w terminals = Followed (HasTree ReadsBound) (Fits width s d width) terminals
+Fits width (params ∷ s) d w terminals = Followed (HasTree (ReadsListed ReadsParam)) (Fits width s d width) terminals
 Fits width (more_params ∷ s) d w terminals = Followed (Longer ReadsParam (ReadsCommas ReadsParam)) (Fits width s d width) terminals
-Fits width (locals ∷ s) d w terminals = Followed (Stands (ReadsAll ReadsLocal)) (Fits width s d width) terminals
+Fits width (locals ∷ s) d w terminals = Followed (HasTree (ReadsAll ReadsLocal)) (Fits width s d width) terminals
 
 -- ---- what is wanted, completed: the kinds of it
 pub completes : (width : ℕ) (s : List Want) (d w : ℕ) → (rest : List TokenKind) × Fits width s d w (plains rest)

@@ -4,8 +4,7 @@ use Rattle.source_lexer.specs.declared.token.TokenKind.{TokenKind}
 use Rattle.source_lexer.specs.declared.token.TokenKind.TheVariants as kind
 use Rattle.source_parser.specs.Grammar.{is_weighted}
 
--- What may be wanted next. Of the wants that stand for a thing of the grammar only those have a comment that say
--- more than its name.
+-- What may be wanted next. A want without a comment is the thing of the grammar that it is named for.
 pub data Want : Type 0 where
   -- a token of this kind, outside of expressions and in one
   token : TokenKind → Want
