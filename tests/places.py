@@ -3,16 +3,23 @@
 
 A small recogniser that shares nothing with the parser: Earley's, over kinds of tokens. A list of tokens is a prefix
 of a program exactly where the sets of items are not empty up to its end. The limits of nesting are counted apart from
-it, by what opens and closes. It writes the table of crates/language_tests/src/places.rt:
+it, by what opens and closes. It writes two tables, of 1,000 texts together: crates/language_tests/src/places.rt has
+mistakes that people make, each program of a list cut, thinned and altered, and the limits; random_places.rt has random
+kinds of tokens, from an empty text on and at the limits.
 
-    tests/places.py --write     writes the table anew
-    tests/places.py             fails where the table isn't what this program says
+    tests/places.py --write     writes the tables anew
+    tests/places.py             fails where a table isn't what this program says
 """
+import random
 import re
 import sys
 from pathlib import Path
 
-TABLE = Path(__file__).resolve().parent.parent / "crates/language_tests/src/places.rt"
+TABLES = Path(__file__).resolve().parent.parent / "crates/language_tests/src"
+
+# All texts of both tables, and where the random ones begin.
+TEXTS = 1000
+SEED = 15
 
 WORDS = "var array proc do end print read if then else for to while limit div mod".split()
 TOKEN = re.compile(r"\s*([A-Za-z][A-Za-z0-9_]*|[0-9]+|:=|\.\.|<=|<>|>=|[:;,()\[\]+\-*<>=])")
@@ -96,16 +103,26 @@ def closed(items, sets):
     return items
 
 
+def begun():
+    """The items before any token."""
+    return closed({("PROGRAM", tuple(body), 0, 0) for body in RULES["PROGRAM"]}, [])
+
+
+def went_on(items, token, sets):
+    """The items after a token more; none where no program goes on with it."""
+    sets.append(items)
+    items = {(n, b, d + 1, s) for n, b, d, s in items if d < len(b) and b[d] == token}
+    return closed(items, sets) if items else items
+
+
 def stop(tokens):
     """The first token that no program goes on with; their number where more are wanted; None where they are whole."""
     sets = []
-    items = closed({("PROGRAM", tuple(body), 0, 0) for body in RULES["PROGRAM"]}, sets)
+    items = begun()
     for place, token in enumerate(tokens):
-        sets.append(items)
-        items = {(n, b, d + 1, s) for n, b, d, s in items if d < len(b) and b[d] == token}
+        items = went_on(items, token, sets)
         if not items:
             return place
-        items = closed(items, sets)
     whole = any(n == "PROGRAM" and d == len(b) and s == 0 for n, b, d, s in items)
     return None if whole else len(tokens)
 
@@ -294,7 +311,7 @@ LIMITS = [
 ]
 
 
-def cases():
+def chosen():
     found = {}
     for text in BY_HAND + LIMITS:
         found[text] = None
@@ -314,24 +331,106 @@ def cases():
     return list(found)
 
 
-def table():
-    lines = [f"{reported(repeated(text))} | {text}" for text in cases()]
-    body = "".join(f"{line}\\n\\\n    " for line in lines)
-    return (
-        "//! Texts, and where their tokens stop to be a prefix of a program, nest too deep, or are one. `tests/places.py` wrote\n"
-        "//! it, by a recogniser of its own. `{N TEXT}` stands for TEXT N times.\n"
-        "\n"
-        "/// What is reported of a text, a bar, and the text.\n"
-        f'pub const PLACES: &str = "\\\n    {body}";\n'
-    )
+# Fronts that leave room for none to two more of what is limited, in each place where an expression or a block stands.
+AT_LIMITS = [
+    "",
+    "print {199 -}",
+    "print {200 -}",
+    "print {198 (}n",
+    "print {200 (}7",
+    "print 7{199 +n}",
+    "print 7{200  div n}",
+    "print {100 n[}7{99 *n}",
+    "n[{199 -}",
+    "n[{200 (}n",
+    "n[n] := {200 -}",
+    "read n[{200 -}",
+    "n({200 -}n, {199 -}",
+    "n(n, {200 (}",
+    "if {200 -}n < {199 -}",
+    "if {200 (}",
+    "for n := {200 -}",
+    "for n := {200 -}n to {199 -}",
+    "while n = {200 -}",
+    "var n: -7..-7; print {200 -}",
+    "{63 if n < n then }",
+    "{64 if n < n then }",
+    "{62 while n < n limit 7 do }if n = n then else",
+    "{64 for n := 7 to n do }",
+    "proc n() do {64 if n < n then }",
+    "{64 if n < n then }{64 end }",
+    "{64 if n < n then }print {200 -}",
+]
+
+KINDS = sorted({symbol for told in RULES.values() for body in told for symbol in body if symbol not in RULES})
+
+
+def random_text(chance, front):
+    """A front and 1 to 12 random kinds after it; most times one with which a program goes on, where there is one."""
+    sets, items = [], begun()
+    for token in kinds(repeated(front)):
+        items = went_on(items, token, sets)
+    words = []
+    for _ in range(chance.randint(1, 12)):
+        may_come = sorted({b[d] for n, b, d, s in items if d < len(b) and b[d] not in RULES})
+        token = chance.choice(may_come if may_come and chance.random() < 0.9 else KINDS)
+        words.append(SPELLED.get(token, token))
+        items = went_on(items, token, sets) if items else items
+    return f"{front} {' '.join(words)}".strip()
+
+
+def random_texts(known):
+    """As many as are wanted besides the others, one at a limit for each two from an empty text on."""
+    chance = random.Random(SEED)
+    found = {}
+    while len(known) + len(found) < TEXTS:
+        front = chance.choice(AT_LIMITS) if len(found) % 3 == 0 else ""
+        text = random_text(chance, front)
+        if text not in known:
+            found[text] = None
+    return list(found)
+
+
+def said(texts):
+    return [f"{reported(repeated(text))} | {text}\\n" for text in texts]
+
+
+def filled(parts):
+    """The parts, several in a line of a file."""
+    lines = [""]
+    for part in parts:
+        if lines[-1] and len(lines[-1]) + len(part) > 110:
+            lines.append("")
+        lines[-1] += part
+    return lines
+
+
+def tables():
+    texts = chosen()
+    others = random_texts(set(texts))
+    return {
+        "places.rt": (
+            "//! Texts, and where their tokens stop to be a prefix of a program, nest too deep, or are one. `tests/places.py` wrote\n"
+            "//! it, by a recogniser of its own. `{N TEXT}` stands for TEXT N times.\n"
+            "\n"
+            "/// What is reported of a text, a bar, and the text.\n"
+            'pub const PLACES: &str = "\\\n    ' + "\\\n    ".join(said(texts)) + '\\\n    ";\n'
+        ),
+        "random_places.rt": (
+            f"//! The same of {len(others)} random texts, from the seed {SEED} on.\n"
+            "\n"
+            "/// What is reported of a text, a bar, and the text.\n"
+            'pub const RANDOM_PLACES: &str = "\\\n    ' + "\\\n    ".join(filled(said(others))) + '\\\n    ";\n'
+        ),
+    }
 
 
 if __name__ == "__main__":
-    text = table()
-    if "--write" in sys.argv:
-        TABLE.parent.mkdir(exist_ok=True)
-        TABLE.write_text(text)
-        print(text.count("|"), "cases")
-    elif TABLE.read_text() != text:
-        print("the table of places is not what the grammar says")
-        sys.exit(1)
+    wanted = tables()
+    print(f"{TEXTS} texts, the random ones from the seed {SEED} on")
+    for name, text in wanted.items():
+        if "--write" in sys.argv:
+            (TABLES / name).write_text(text)
+        elif (TABLES / name).read_text() != text:
+            print(f"the table {name} is not what the grammar says")
+            sys.exit(1)

@@ -10,6 +10,8 @@ mod places;
 #[cfg(test)]
 mod programs;
 #[cfg(test)]
+mod random_places;
+#[cfg(test)]
 mod tokens;
 #[cfg(test)]
 mod trees;

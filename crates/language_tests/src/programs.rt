@@ -3,6 +3,7 @@ ghost use Rattle.std.specs.Prelude.{◌<◌, ◌≤ℤ◌, IfOk, pos};
 ghost use Rattle.source_tree.specs.Numbers.{program_names, program_numbers};
 
 use crate::places::PLACES;
+use crate::random_places::RANDOM_PLACES;
 use source_lexer::tokens;
 use source_parser::{ParseFault, parse};
 use source_tree::Program;
@@ -50,7 +51,7 @@ fn reported(alloc: Global, text: &str) -> Result<String, Fail> {
 
 #[test]
 fn where_tokens_stop(rt: HostRuntime) -> Result<(), Fail> {
-    for line in PLACES.lines() {
+    for line in PLACES.lines().chain(RANDOM_PLACES.lines()) {
         match line.split_once(" | ") {
             Some((wanted, text)) => {
                 let text = spread(rt.alloc(), text)?;

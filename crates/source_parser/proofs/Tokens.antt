@@ -7,18 +7,14 @@ use Rattle.source_lexer.specs.declared.token.TokenKind.{TokenKind}
 use Rattle.source_lexer.specs.declared.token.TokenKind.TheVariants.{Name, Number}
 use Rattle.source_lexer.specs.declared.token.Token.{Token}
 use Rattle.source_lexer.specs.Placed.{IsPlaced}
-use Rattle.source_parser.specs.Terminals.{Terminal, fixed, terminal_by, terminal_of, terminals_of}
-use Rattle.source_parser.specs.Prefixes.{IsFixed, NotFixed}
+use Rattle.source_parser.specs.Terminals.{Terminal, fixed, kinds_of, terminal_by, terminal_of, terminals_of}
+use Rattle.source_parser.proofs.KindNumbers.{kinds_of_tokens}
+use Rattle.source_parser.specs.Taking.{IsFixed, NotKind}
 
 fixed_terminal : (kind : TokenKind) (bytes : List ℕ) (line : ℕ) → IsFixed kind → terminal_by kind bytes line ≡ fixed kind line
 fixed_terminal Name bytes line h = absurd h
 fixed_terminal Number bytes line h = absurd h
 fixed_terminal kind bytes line h = refl
-
-kind_of_fixed : (kind other : TokenKind) (bytes : List ℕ) (line l : ℕ) → terminal_by kind bytes line ≡ fixed other l → kind ≡ other
-kind_of_fixed Name other bytes line l h = absurd cc
-kind_of_fixed Number other bytes line l h = absurd cc
-kind_of_fixed kind other bytes line l h = cc
 
 -- the first token, and those after it
 pub first_some : (tokens : List Token) (token : Token) → Some token ≡ slice_get tokens 0 → (rest : List Token) × (tokens ≡ token ∷ rest)
@@ -39,12 +35,12 @@ fixed_found text tokens token rest kind parts is_fixed same =
     let head : terminal_of text token ≡ fixed kind token.line = rw same (fixed_terminal kind (slice_range text token.start token.end) token.line is_fixed) in
     ap (terminals_of text) parts ∙ ap (λ (s : Terminal). s ∷ terminals_of text rest) head
 
-pub fixed_missed : (text : List ℕ) (tokens : List Token) (token : Token) (rest : List Token) (kind : TokenKind)
-    → tokens ≡ token ∷ rest → (token.kind ≡ kind → ⊥) → NotFixed kind (terminals_of text tokens)
-fixed_missed text tokens token rest kind parts other line behind h =
-    let whole : terminals_of text tokens ≡ terminal_of text token ∷ terminals_of text rest = ap (terminals_of text) parts in
-    let head : terminal_of text token ≡ fixed kind line = cc in
-    other (kind_of_fixed token.kind kind (slice_range text token.start token.end) token.line line head)
+-- another kind in front, or none
+pub missed : (text : List ℕ) (tokens : List Token) (token : Token) (rest : List Token) (kind : TokenKind)
+    → tokens ≡ token ∷ rest → (token.kind ≡ kind → ⊥) → NotKind kind (kinds_of (terminals_of text tokens))
+missed text tokens token rest kind parts other behind h =
+    let kinds = kinds_of_tokens text tokens in
+    other cc
 
-pub fixed_past_end : (kind : TokenKind) (terminals : List Terminal) → terminals ≡ [] → NotFixed kind terminals
-fixed_past_end kind terminals none line rest h = absurd cc
+pub past_end : (kind : TokenKind) (terminals : List Terminal) → terminals ≡ [] → NotKind kind (kinds_of terminals)
+past_end kind terminals none rest h = let empty : kinds_of terminals ≡ [] = ap kinds_of none in absurd cc

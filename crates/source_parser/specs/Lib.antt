@@ -5,4 +5,9 @@ pub mod Limits
 pub mod Terminals
 pub mod Grammar
 pub mod Prefixes
+pub mod Counting
+pub mod Wants
+pub mod Landings
+pub mod Taking
+pub mod Parts
 pub mod Parsed

@@ -1,28 +1,25 @@
 -- What the tokens of a text are reported to be.
-use Rattle.std.specs.Prelude.{◌≡◌, ℕ, ◌≤◌, List, length, Result, Ok, Err}
+use Rattle.std.specs.Prelude.{◌≡◌, ℕ, List, Result, Ok, Err}
 use Rattle.source_lexer.specs.declared.token.Token.{Token}
 use Rattle.source_lexer.specs.Scan.{Scans, whole}
 use Rattle.source_tree.specs.declared.declaration.Program.{Program}
 use Rattle.source_parser.specs.Limits.{depth_limit, weight_limit}
 use Rattle.source_parser.specs.declared.fault.ParseFault.{ParseFault}
 use Rattle.source_parser.specs.declared.fault.ParseFault.TheVariants.{Stops, Deep, NoMemory}
-use Rattle.source_parser.specs.Terminals.{terminals_of}
+use Rattle.source_parser.specs.Terminals.{terminals_of, token_kinds}
 use Rattle.source_parser.specs.Grammar.{Spells}
+use Rattle.source_parser.specs.Prefixes.{StopsAt, DeepAt}
 
 -- the tokens spell the program, within the limits of nesting
 abbrev pub IsSpelled : List ℕ → List Token → Program → Type 0
 IsSpelled text tokens program = Spells depth_limit weight_limit (terminals_of text tokens) program
 
--- the tokens spell no program within the limits of nesting
-abbrev pub SpellsNothing : List ℕ → List Token → Type 0
-SpellsNothing text tokens = (program : Program) → IsSpelled text tokens program → ⊥
-
--- The one program that the tokens spell. Or there is none, and the place of a token is reported, or, where more tokens
--- would be wanted, their number.
+-- The one program that the tokens spell. Or the place of the token at which they stop to be a prefix of any program, their
+-- number where more are wanted; or of the first that nests too deep.
 abbrev pub IsParsed : List ℕ → List Token → Result Program ParseFault → Type 0
 IsParsed text tokens (Ok program) = IsSpelled text tokens program × ((other : Program) → IsSpelled text tokens other → other ≡ program)
-IsParsed text tokens (Err (Stops place)) = (place ≤ length tokens) × SpellsNothing text tokens
-IsParsed text tokens (Err (Deep place)) = (place ≤ length tokens) × SpellsNothing text tokens
+IsParsed text tokens (Err (Stops place)) = StopsAt depth_limit weight_limit (token_kinds tokens) place
+IsParsed text tokens (Err (Deep place)) = DeepAt depth_limit weight_limit (token_kinds tokens) place
 IsParsed text tokens (Err NoMemory) = Unit {0}
 
 -- ---- the same of the text alone

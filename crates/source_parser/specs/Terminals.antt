@@ -34,3 +34,17 @@ line_of (fixed kind line) = line
 abbrev pub first_line : List Terminal → ℕ
 first_line [] = 0
 first_line (terminal ∷ terminals) = line_of terminal
+
+-- the kind of a terminal
+abbrev pub kind_of : Terminal → TokenKind
+kind_of (identifier name) = kind.Name
+kind_of (literal value line) = kind.Number
+kind_of (fixed kind line) = kind
+
+abbrev pub kinds_of : List Terminal → List TokenKind
+kinds_of [] = []
+kinds_of (terminal ∷ terminals) = kind_of terminal ∷ kinds_of terminals
+
+-- the kinds of tokens
+abbrev pub token_kinds : List Token → List TokenKind
+token_kinds tokens = map (λ token. token.kind) tokens

@@ -1,9 +1,12 @@
-ghost use Rattle.std.specs.Prelude.{◌≤◌, ◌∷◌, length};
-ghost use Rattle.source_lexer.specs.declared.token.TokenKind.TheVariants.{Array as ArrayToken, Proc as ProcToken, Var as VarToken};
+ghost use Rattle.std.specs.Prelude.{ℕ, ◌++◌, ◌≤◌, ◌∷◌, [], IfOk, length};
+ghost use Rattle.source_lexer.specs.declared.token.TokenKind.TheVariants.{Array as ArrayToken, Proc as ProcToken, Semicolon as SemicolonToken, Var as VarToken};
 ghost use Rattle.source_parser.specs.Limits.{depth_limit, weight_limit};
 ghost use Rattle.source_parser.specs.Grammar.{ReadsAll, ReadsBound, ReadsDeclaration, ReadsListed, ReadsLocal, ReadsParam, ReadsRange};
+ghost use Rattle.source_parser.specs.Landings.{Lands, LandsNext};
+ghost use Rattle.source_parser.specs.Parts.{ReadsNext};
+ghost use Rattle.source_parser.specs.Taking.{Consumes, ConsumesNext};
 ghost use Rattle.source_parser.specs.Terminals.{fixed};
-ghost use Rattle.source_parser.specs.Prefixes.{Anything, BeginsNoDeclaration, Consumes, ConsumesNext, NotFixed, Parses, ParsesNext};
+ghost use Rattle.source_parser.specs.Wants.{array_wanted, bound as wants_bound, declarations as wants_declarations, locals as wants_locals, param_wanted, params as wants_params, proc_wanted, range_wanted, token};
 
 use crate::fault::Fault;
 use crate::reader::Reader;
@@ -18,7 +21,8 @@ pub const DEPTH_LIMIT: usize = 64;
 
 /// Declarations, as many as stand there.
 pub fn declarations(alloc: Global, reader: &mut Reader<'_>) -> Result<Items<Declaration>, Fault>
-    ensures value { Parses (ReadsAll (ReadsDeclaration depth_limit weight_limit)) BeginsNoDeclaration reader.old result reader.new }
+    ensures value { IfOk result (λ found. ReadsAll (ReadsDeclaration depth_limit weight_limit) reader.old found reader.new) }
+    ensures lands { Lands (wants_declarations ∷ []) reader.old depth_limit weight_limit result reader.new depth_limit weight_limit }
     ensures shorter { length reader.new ≤ length reader.old }
 {
     let mut found = Items::new(alloc);
@@ -30,7 +34,8 @@ pub fn declarations(alloc: Global, reader: &mut Reader<'_>) -> Result<Items<Decl
 
 /// A declaration, where one begins.
 fn declaration(alloc: Global, reader: &mut Reader<'_>) -> Result<Option<Declaration>, Fault>
-    ensures value { ParsesNext (ReadsDeclaration depth_limit weight_limit) BeginsNoDeclaration reader.old result reader.new }
+    ensures value { ReadsNext (ReadsDeclaration depth_limit weight_limit) reader.old result reader.new }
+    ensures lands { LandsNext wants_declarations reader.old depth_limit weight_limit result reader.new }
     ensures shorter { ConsumesNext reader.old result reader.new }
 {
     if let Some(line) = reader.take(TokenKind::Var) {
@@ -47,8 +52,8 @@ fn declaration(alloc: Global, reader: &mut Reader<'_>) -> Result<Option<Declarat
 
 /// After `var`: `name: range;`
 fn variable(alloc: Global, reader: &mut Reader<'_>, line: u32) -> Result<Declaration, Fault>
-    ensures value { Parses (λ terminals. ReadsDeclaration depth_limit weight_limit (fixed VarToken line ∷ terminals))
-        Anything reader.old result reader.new }
+    ensures value { IfOk result (λ found. ReadsDeclaration depth_limit weight_limit (fixed VarToken line ∷ reader.old) found reader.new) }
+    ensures lands { (depth spare : ℕ) → Lands (param_wanted ++ token SemicolonToken ∷ []) reader.old depth spare result reader.new depth weight_limit }
     ensures shorter { Consumes reader.old result reader.new }
 {
     let Param { name, range } = param(alloc, reader)?;
@@ -58,8 +63,8 @@ fn variable(alloc: Global, reader: &mut Reader<'_>, line: u32) -> Result<Declara
 
 /// After `array`: `name[length]: range;`
 fn array(alloc: Global, reader: &mut Reader<'_>, line: u32) -> Result<Declaration, Fault>
-    ensures value { Parses (λ terminals. ReadsDeclaration depth_limit weight_limit (fixed ArrayToken line ∷ terminals))
-        Anything reader.old result reader.new }
+    ensures value { IfOk result (λ found. ReadsDeclaration depth_limit weight_limit (fixed ArrayToken line ∷ reader.old) found reader.new) }
+    ensures lands { (depth spare : ℕ) → Lands (array_wanted) reader.old depth spare result reader.new depth weight_limit }
     ensures shorter { Consumes reader.old result reader.new }
 {
     let name = reader.expect_name(alloc)?;
@@ -79,8 +84,8 @@ fn array(alloc: Global, reader: &mut Reader<'_>, line: u32) -> Result<Declaratio
 
 /// After `proc`: `name(params) locals do statements end`.
 fn procedure(alloc: Global, reader: &mut Reader<'_>, line: u32) -> Result<Declaration, Fault>
-    ensures value { Parses (λ terminals. ReadsDeclaration depth_limit weight_limit (fixed ProcToken line ∷ terminals))
-        Anything reader.old result reader.new }
+    ensures value { IfOk result (λ found. ReadsDeclaration depth_limit weight_limit (fixed ProcToken line ∷ reader.old) found reader.new) }
+    ensures lands { Lands (proc_wanted) reader.old depth_limit weight_limit result reader.new depth_limit weight_limit }
     ensures shorter { Consumes reader.old result reader.new }
 {
     let name = reader.expect_name(alloc)?;
@@ -101,7 +106,8 @@ fn procedure(alloc: Global, reader: &mut Reader<'_>, line: u32) -> Result<Declar
 
 /// After `(`: parameters with commas between them, or none, and `)`.
 fn params(alloc: Global, reader: &mut Reader<'_>) -> Result<Items<Param>, Fault>
-    ensures value { Parses (ReadsListed ReadsParam) Anything reader.old result reader.new }
+    ensures value { IfOk result (λ found. ReadsListed ReadsParam reader.old found reader.new) }
+    ensures lands { (depth spare : ℕ) → Lands (wants_params ∷ []) reader.old depth spare result reader.new depth weight_limit }
     ensures shorter { Consumes reader.old result reader.new }
 {
     let mut found = Items::new(alloc);
@@ -118,7 +124,8 @@ fn params(alloc: Global, reader: &mut Reader<'_>) -> Result<Items<Param>, Fault>
 
 /// Locals, as many as stand there.
 fn locals(alloc: Global, reader: &mut Reader<'_>) -> Result<Items<Local>, Fault>
-    ensures value { Parses (ReadsAll ReadsLocal) (NotFixed VarToken) reader.old result reader.new }
+    ensures value { IfOk result (λ found. ReadsAll ReadsLocal reader.old found reader.new) }
+    ensures lands { (depth : ℕ) → Lands (wants_locals ∷ []) reader.old depth weight_limit result reader.new depth weight_limit }
     ensures shorter { length reader.new ≤ length reader.old }
 {
     let mut found = Items::new(alloc);
@@ -132,7 +139,8 @@ fn locals(alloc: Global, reader: &mut Reader<'_>) -> Result<Items<Local>, Fault>
 
 /// `name: range`
 fn param(alloc: Global, reader: &mut Reader<'_>) -> Result<Param, Fault>
-    ensures value { Parses ReadsParam Anything reader.old result reader.new }
+    ensures value { IfOk result (λ found. ReadsParam reader.old found reader.new) }
+    ensures lands { (depth spare : ℕ) → Lands (param_wanted) reader.old depth spare result reader.new depth weight_limit }
     ensures shorter { Consumes reader.old result reader.new }
 {
     let name = reader.expect_name(alloc)?;
@@ -143,7 +151,8 @@ fn param(alloc: Global, reader: &mut Reader<'_>) -> Result<Param, Fault>
 
 /// `low..high`
 fn range(reader: &mut Reader<'_>) -> Result<Range, Fault>
-    ensures value { Parses ReadsRange Anything reader.old result reader.new }
+    ensures value { IfOk result (λ found. ReadsRange reader.old found reader.new) }
+    ensures lands { (depth spare : ℕ) → Lands (range_wanted) reader.old depth spare result reader.new depth weight_limit }
     ensures shorter { Consumes reader.old result reader.new }
 {
     let low = bound(reader)?;
@@ -154,7 +163,8 @@ fn range(reader: &mut Reader<'_>) -> Result<Range, Fault>
 
 /// A number, after a minus or without one.
 fn bound(reader: &mut Reader<'_>) -> Result<i128, Fault>
-    ensures value { Parses ReadsBound Anything reader.old result reader.new }
+    ensures value { IfOk result (λ found. ReadsBound reader.old found reader.new) }
+    ensures lands { (depth spare : ℕ) → Lands (wants_bound ∷ []) reader.old depth spare result reader.new depth weight_limit }
     ensures shorter { Consumes reader.old result reader.new }
 {
     if reader.take(TokenKind::Minus).is_none() {

@@ -1,8 +1,10 @@
-ghost use Rattle.std.specs.Prelude.{◌≡◌, ◌+◌, ◌≤◌, ◌∷◌, IfOk, OnOk, length};
+ghost use Rattle.std.specs.Prelude.{ℕ, ◌≡◌, ◌+◌, ◌≤◌, ◌∷◌, [], IfOk, OnOk, length};
 ghost use Rattle.source_parser.specs.Limits.{weight_limit};
-ghost use Rattle.source_parser.specs.Grammar.{factor, term, sum, weight, ReadsWithin, ReadsOutermost};
+ghost use Rattle.source_parser.specs.Grammar.{factor, term, sum, weight, ReadsExpr, ReadsOutermost};
+ghost use Rattle.source_parser.specs.Landings.{Lands};
 ghost use Rattle.source_parser.specs.Terminals.{identifier};
-ghost use Rattle.source_parser.specs.Prefixes.{Consumes, ConsumesNext, Ends, IsFixed, Parses, TakesOperator, TakesWeighted};
+ghost use Rattle.source_parser.specs.Taking.{Consumes, ConsumesNext, IsFixed, TakesOperator, TakesWeighted};
+ghost use Rattle.source_parser.specs.Wants.{outermost, factor as wants_factor, index as wants_index, sum as wants_sum, term as wants_term};
 ghost use Rattle.source_tree.specs.declared.expression.Expr.{Binary};
 
 use crate::fault::Fault;
@@ -17,7 +19,8 @@ const WEIGHT_LIMIT: usize = 200;
 
 /// An expression that isn't inside another.
 pub fn expr(alloc: Global, reader: &mut Reader<'_>) -> Result<Expr, Fault>
-    ensures value { Parses (ReadsOutermost weight_limit) (Ends sum) reader.old result reader.new }
+    ensures value { IfOk result (λ e. ReadsOutermost weight_limit reader.old e reader.new) }
+    ensures lands { (depth spare : ℕ) → Lands (outermost ∷ []) reader.old depth spare result reader.new depth weight_limit }
     ensures shorter { Consumes reader.old result reader.new }
 {
     let mut weight_left = WEIGHT_LIMIT;
@@ -27,7 +30,8 @@ pub fn expr(alloc: Global, reader: &mut Reader<'_>) -> Result<Expr, Fault>
 /// Terms with `+` and `-` between them, as many as stand there.
 #[cycle(expression)]
 fn sum(alloc: Global, reader: &mut Reader<'_>, weight_left: &mut usize) -> Result<Expr, Fault>
-    ensures value { Parses (ReadsWithin sum weight_left.old) (Ends sum) reader.old result reader.new }
+    ensures value { IfOk result (λ e. ReadsExpr sum reader.old e reader.new) }
+    ensures lands { (depth : ℕ) → Lands (wants_sum ∷ []) reader.old depth weight_left.old result reader.new depth weight_left.new }
     ensures weight_paid { OnOk result (weight reader.old + weight_left.new ≡ weight reader.new + weight_left.old) }
     ensures shorter { Consumes reader.old result reader.new }
 {
@@ -42,7 +46,8 @@ fn sum(alloc: Global, reader: &mut Reader<'_>, weight_left: &mut usize) -> Resul
 /// Factors with `*`, `div` and `mod` between them, as many as stand there.
 #[cycle(expression)]
 fn term(alloc: Global, reader: &mut Reader<'_>, weight_left: &mut usize) -> Result<Expr, Fault>
-    ensures value { Parses (ReadsWithin term weight_left.old) (Ends term) reader.old result reader.new }
+    ensures value { IfOk result (λ e. ReadsExpr term reader.old e reader.new) }
+    ensures lands { (depth : ℕ) → Lands (wants_term ∷ []) reader.old depth weight_left.old result reader.new depth weight_left.new }
     ensures weight_paid { OnOk result (weight reader.old + weight_left.new ≡ weight reader.new + weight_left.old) }
     ensures shorter { Consumes reader.old result reader.new }
 {
@@ -57,7 +62,8 @@ fn term(alloc: Global, reader: &mut Reader<'_>, weight_left: &mut usize) -> Resu
 /// A number, a name, an element, or an expression after `-` or in brackets.
 #[cycle(expression)]
 fn factor(alloc: Global, reader: &mut Reader<'_>, weight_left: &mut usize) -> Result<Expr, Fault>
-    ensures value { Parses (ReadsWithin factor weight_left.old) (Ends factor) reader.old result reader.new }
+    ensures value { IfOk result (λ e. ReadsExpr factor reader.old e reader.new) }
+    ensures lands { (depth : ℕ) → Lands (wants_factor ∷ []) reader.old depth weight_left.old result reader.new depth weight_left.new }
     ensures weight_paid { OnOk result (weight reader.old + weight_left.new ≡ weight reader.new + weight_left.old) }
     ensures shorter { Consumes reader.old result reader.new }
 {
@@ -86,8 +92,8 @@ fn variable(
     weight_left: &mut usize,
     name: Name,
 ) -> Result<Expr, Fault>
-    ensures value { Parses (λ terminals. ReadsWithin factor weight_left.old (identifier name ∷ terminals))
-        (Ends factor) reader.old result reader.new }
+    ensures value { IfOk result (λ e. ReadsExpr factor (identifier name ∷ reader.old) e reader.new) }
+    ensures lands { (depth : ℕ) → Lands (wants_index ∷ []) reader.old depth weight_left.old result reader.new depth weight_left.new }
     ensures weight_paid { OnOk result (weight reader.old + weight_left.new ≡ weight reader.new + weight_left.old) }
     ensures shorter { length reader.new ≤ length reader.old }
 {

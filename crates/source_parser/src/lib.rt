@@ -8,9 +8,11 @@
 mod declaration;
 mod expression;
 mod fault;
+mod laws;
 mod program;
 mod reader;
 mod statement;
 
 pub use fault::ParseFault;
+pub use laws::{deep_is_the_first_over_a_limit, one_answer_fits};
 pub use program::parse;

@@ -1,8 +1,8 @@
 ghost use Rattle.std.specs.List.{All};
-ghost use Rattle.std.specs.Prelude.{◌≡◌, ◌≤◌, ◌≤ℤ◌, [], IfOk, OnOk, length, pos};
+ghost use Rattle.std.specs.Prelude.{◌≤◌, ◌≤ℤ◌, [], IfOk, length, pos};
 ghost use Rattle.source_parser.specs.Limits.{depth_limit, weight_limit};
 ghost use Rattle.source_parser.specs.Grammar.{ReadsProgram};
-ghost use Rattle.source_parser.specs.Prefixes.{AtEnd, Parses};
+ghost use Rattle.source_parser.specs.Landings.{IsFaultOf};
 ghost use Rattle.source_tree.specs.Numbers.{program_names, program_numbers};
 ghost use Rattle.source_lexer.specs.Scan.{Scans, whole};
 ghost use Rattle.source_parser.specs.Parsed.{IsParsed, IsProgramOf};
@@ -41,8 +41,8 @@ pub fn parse(alloc: Global, text: &[u8], tokens: &[Token]) -> Result<Program, Pa
 
 /// Declarations, and then statements up to the end.
 fn program(alloc: Global, reader: &mut Reader<'_>) -> Result<Program, Fault>
-    ensures value { Parses (ReadsProgram depth_limit weight_limit) AtEnd reader.old result reader.new }
-    ensures whole { OnOk result (reader.new ≡ []) }
+    ensures value { IfOk result (λ found. ReadsProgram depth_limit weight_limit reader.old found []) }
+    ensures fault { IsFaultOf reader.old result reader.new }
     ensures shorter { length reader.new ≤ length reader.old }
 {
     let declarations = declarations(alloc, reader)?;

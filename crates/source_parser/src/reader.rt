@@ -1,9 +1,8 @@
-ghost use Rattle.std.specs.Prelude.{◌≡◌, ◌<◌, ◌≤◌, ◌≤ℤ◌, IfErr, IfOk, IfSome, MatchOption, MatchResult, length, pos};
+ghost use Rattle.std.specs.Prelude.{◌≡◌, ◌<◌, ◌≤◌, ◌≤ℤ◌, IfOk, IfSome, MatchOption, MatchResult, length, pos};
 ghost use Rattle.std.specs.List.{All};
 ghost use Rattle.source_lexer.specs.Placed.{IsPlaced};
-ghost use Rattle.source_parser.specs.declared.fault.Fault.TheVariants.{Stops};
 ghost use Rattle.source_parser.specs.Terminals.{terminals_of, first_line};
-ghost use Rattle.source_parser.specs.Prefixes.{Consumes, ConsumesNext, IsFixed, TakesFixed, TakesLiteral, TakesIdentifier, TakesWithin, ExpectsFixed, ExpectsLiteral, ExpectsIdentifier};
+ghost use Rattle.source_parser.specs.Taking.{Consumes, ConsumesNext, IsFixed, TakesFixed, TakesLiteral, TakesIdentifier, TakesWithin, ExpectsFixed, ExpectsLiteral, ExpectsIdentifier};
 
 use crate::fault::Fault;
 use plain_text::number_up_to;
@@ -79,7 +78,6 @@ impl<'a> Reader<'a> {
     pub fn expect(&mut self, kind: TokenKind) -> Result<u32, Fault>
         requires { IsFixed kind }
         ensures value { ExpectsFixed kind self.old result self.new }
-        ensures stops { IfErr result (λ fault. fault ≡ Stops) }
         ensures shorter { Consumes self.old result self.new }
     {
         self.take(kind).ok_or(Fault::Stops)

@@ -1,9 +1,12 @@
-ghost use Rattle.std.specs.Prelude.{ℕ, ◌+◌, ◌≤◌, ◌∷◌, length};
-ghost use Rattle.source_lexer.specs.declared.token.TokenKind.TheVariants.{Becomes as BecomesToken, Do as DoToken, End as EndToken, For as ForToken, If as IfToken, LeftBracket, Limit as LimitToken, Print as PrintToken, Read as ReadToken, Semicolon as SemicolonToken, Then as ThenToken, While as WhileToken};
+ghost use Rattle.std.specs.Prelude.{ℕ, suc, ◌++◌, ◌≤◌, ◌∷◌, [], IfOk, length};
+ghost use Rattle.source_lexer.specs.declared.token.TokenKind.TheVariants.{Becomes as BecomesToken, Do as DoToken, End as EndToken, For as ForToken, If as IfToken, Limit as LimitToken, Name as NameToken, Number as NumberToken, Print as PrintToken, Read as ReadToken, Semicolon as SemicolonToken, Then as ThenToken, To as ToToken, While as WhileToken};
 ghost use Rattle.source_parser.specs.Limits.{weight_limit};
-ghost use Rattle.source_parser.specs.Grammar.{sum, ReadsCondition, ReadsElse, ReadsListed, ReadsOutermost, ReadsPlace, ReadsStatement, ReadsStatements};
+ghost use Rattle.source_parser.specs.Grammar.{ReadsCondition, ReadsElse, ReadsListed, ReadsOutermost, ReadsPlace, ReadsStatement, ReadsStatements};
+ghost use Rattle.source_parser.specs.Landings.{Lands, LandsNext};
+ghost use Rattle.source_parser.specs.Parts.{Closed, ReadsBounds, ReadsBranches, ReadsLiteral, ReadsName, ReadsNext};
+ghost use Rattle.source_parser.specs.Taking.{Consumes, ConsumesNext, ExpectsComparison};
 ghost use Rattle.source_parser.specs.Terminals.{fixed, identifier};
-ghost use Rattle.source_parser.specs.Prefixes.{Anything, BeginsNoStatement, Closed, Consumes, ConsumesNext, Ends, ExpectsComparison, NotFixed, ReadsBounds, ReadsBranches, ReadsName, ReadsLiteral, Parses, ParsesNext};
+ghost use Rattle.source_parser.specs.Wants.{after_name, close, comparison as wants_comparison, condition_wanted, for_wanted, if_wanted, listed, otherwise, outermost, place_tail, statements as wants_statements, token, while_wanted};
 
 use crate::expression::expr;
 use crate::fault::Fault;
@@ -20,7 +23,8 @@ pub fn statements(
     reader: &mut Reader<'_>,
     depth: usize,
 ) -> Result<Items<Statement>, Fault>
-    ensures value { Parses (ReadsStatements weight_limit depth) BeginsNoStatement reader.old result reader.new }
+    ensures value { IfOk result (λ found. ReadsStatements weight_limit depth reader.old found reader.new) }
+    ensures lands { Lands (wants_statements ∷ []) reader.old depth weight_limit result reader.new depth weight_limit }
     ensures shorter { length reader.new ≤ length reader.old }
 {
     let mut found = Items::new(alloc);
@@ -37,7 +41,8 @@ fn statement(
     reader: &mut Reader<'_>,
     depth: usize,
 ) -> Result<Option<Statement>, Fault>
-    ensures value { ParsesNext (ReadsStatement weight_limit depth) BeginsNoStatement reader.old result reader.new }
+    ensures value { ReadsNext (ReadsStatement weight_limit depth) reader.old result reader.new }
+    ensures lands { LandsNext wants_statements reader.old depth weight_limit result reader.new }
     ensures shorter { ConsumesNext reader.old result reader.new }
 {
     if let Some(line) = reader.take(TokenKind::Print) {
@@ -69,8 +74,8 @@ fn if_statement(
     depth: usize,
     line: u32,
 ) -> Result<Statement, Fault>
-    ensures value { Parses (λ terminals. ReadsStatement weight_limit (depth + 1) (fixed IfToken line ∷ terminals))
-        Anything reader.old result reader.new }
+    ensures value { IfOk result (λ found. ReadsStatement weight_limit (suc depth) (fixed IfToken line ∷ reader.old) found reader.new) }
+    ensures lands { Lands (if_wanted) reader.old depth weight_limit result reader.new (suc depth) weight_limit }
     ensures shorter { Consumes reader.old result reader.new }
 {
     let condition = if_condition(alloc, reader)?;
@@ -90,7 +95,8 @@ fn branches(
     reader: &mut Reader<'_>,
     depth: usize,
 ) -> Result<(Items<Statement>, Items<Statement>), Fault>
-    ensures value { Parses (ReadsBranches weight_limit depth) Anything reader.old result reader.new }
+    ensures value { IfOk result (λ found. ReadsBranches weight_limit depth reader.old found reader.new) }
+    ensures lands { Lands (wants_statements ∷ otherwise ∷ close ∷ []) reader.old depth weight_limit result reader.new (suc depth) weight_limit }
     ensures shorter { Consumes reader.old result reader.new }
 {
     let first = statements(alloc, reader, depth)?;
@@ -105,7 +111,8 @@ fn else_part(
     reader: &mut Reader<'_>,
     depth: usize,
 ) -> Result<Items<Statement>, Fault>
-    ensures value { Parses (Closed (ReadsElse weight_limit depth) EndToken) Anything reader.old result reader.new }
+    ensures value { IfOk result (λ found. Closed (ReadsElse weight_limit depth) EndToken reader.old found reader.new) }
+    ensures lands { Lands (otherwise ∷ close ∷ []) reader.old depth weight_limit result reader.new (suc depth) weight_limit }
     ensures shorter { Consumes reader.old result reader.new }
 {
     if reader.take(TokenKind::Else).is_none() {
@@ -118,7 +125,8 @@ fn else_part(
 /// `statements end`
 #[cycle(statement)]
 fn body(alloc: Global, reader: &mut Reader<'_>, depth: usize) -> Result<Items<Statement>, Fault>
-    ensures value { Parses (Closed (ReadsStatements weight_limit depth) EndToken) Anything reader.old result reader.new }
+    ensures value { IfOk result (λ found. Closed (ReadsStatements weight_limit depth) EndToken reader.old found reader.new) }
+    ensures lands { Lands (wants_statements ∷ close ∷ []) reader.old depth weight_limit result reader.new (suc depth) weight_limit }
     ensures shorter { Consumes reader.old result reader.new }
 {
     let found = statements(alloc, reader, depth)?;
@@ -134,8 +142,8 @@ fn for_statement(
     depth: usize,
     line: u32,
 ) -> Result<Statement, Fault>
-    ensures value { Parses (λ terminals. ReadsStatement weight_limit (depth + 1) (fixed ForToken line ∷ terminals))
-        Anything reader.old result reader.new }
+    ensures value { IfOk result (λ found. ReadsStatement weight_limit (suc depth) (fixed ForToken line ∷ reader.old) found reader.new) }
+    ensures lands { Lands (for_wanted) reader.old depth weight_limit result reader.new (suc depth) weight_limit }
     ensures shorter { Consumes reader.old result reader.new }
 {
     let name = counter(alloc, reader)?;
@@ -158,8 +166,8 @@ fn while_statement(
     depth: usize,
     line: u32,
 ) -> Result<Statement, Fault>
-    ensures value { Parses (λ terminals. ReadsStatement weight_limit (depth + 1) (fixed WhileToken line ∷ terminals))
-        Anything reader.old result reader.new }
+    ensures value { IfOk result (λ found. ReadsStatement weight_limit (suc depth) (fixed WhileToken line ∷ reader.old) found reader.new) }
+    ensures lands { Lands (while_wanted) reader.old depth weight_limit result reader.new (suc depth) weight_limit }
     ensures shorter { Consumes reader.old result reader.new }
 {
     let condition = limited_condition(alloc, reader)?;
@@ -175,7 +183,8 @@ fn while_statement(
 
 /// `condition then`
 fn if_condition(alloc: Global, reader: &mut Reader<'_>) -> Result<Condition, Fault>
-    ensures value { Parses (Closed (ReadsCondition weight_limit) ThenToken) Anything reader.old result reader.new }
+    ensures value { IfOk result (λ found. Closed (ReadsCondition weight_limit) ThenToken reader.old found reader.new) }
+    ensures lands { (depth spare : ℕ) → Lands (condition_wanted ++ token ThenToken ∷ []) reader.old depth spare result reader.new depth weight_limit }
     ensures shorter { Consumes reader.old result reader.new }
 {
     let condition = condition(alloc, reader)?;
@@ -185,7 +194,8 @@ fn if_condition(alloc: Global, reader: &mut Reader<'_>) -> Result<Condition, Fau
 
 /// `name :=`
 fn counter(alloc: Global, reader: &mut Reader<'_>) -> Result<Name, Fault>
-    ensures value { Parses (Closed ReadsName BecomesToken) Anything reader.old result reader.new }
+    ensures value { IfOk result (λ found. Closed ReadsName BecomesToken reader.old found reader.new) }
+    ensures lands { (depth spare : ℕ) → Lands (token NameToken ∷ token BecomesToken ∷ []) reader.old depth spare result reader.new depth weight_limit }
     ensures shorter { Consumes reader.old result reader.new }
 {
     let name = reader.expect_name(alloc)?;
@@ -195,7 +205,8 @@ fn counter(alloc: Global, reader: &mut Reader<'_>) -> Result<Name, Fault>
 
 /// `first to last do`
 fn bounds(alloc: Global, reader: &mut Reader<'_>) -> Result<(Expr, Expr), Fault>
-    ensures value { Parses (ReadsBounds weight_limit) Anything reader.old result reader.new }
+    ensures value { IfOk result (λ found. ReadsBounds weight_limit reader.old found reader.new) }
+    ensures lands { (depth spare : ℕ) → Lands (outermost ∷ token ToToken ∷ outermost ∷ token DoToken ∷ []) reader.old depth spare result reader.new depth weight_limit }
     ensures shorter { Consumes reader.old result reader.new }
 {
     let first = expr(alloc, reader)?;
@@ -207,7 +218,8 @@ fn bounds(alloc: Global, reader: &mut Reader<'_>) -> Result<(Expr, Expr), Fault>
 
 /// `condition limit`
 fn limited_condition(alloc: Global, reader: &mut Reader<'_>) -> Result<Condition, Fault>
-    ensures value { Parses (Closed (ReadsCondition weight_limit) LimitToken) Anything reader.old result reader.new }
+    ensures value { IfOk result (λ found. Closed (ReadsCondition weight_limit) LimitToken reader.old found reader.new) }
+    ensures lands { (depth spare : ℕ) → Lands (condition_wanted ++ token LimitToken ∷ []) reader.old depth spare result reader.new depth weight_limit }
     ensures shorter { Consumes reader.old result reader.new }
 {
     let condition = condition(alloc, reader)?;
@@ -217,7 +229,8 @@ fn limited_condition(alloc: Global, reader: &mut Reader<'_>) -> Result<Condition
 
 /// `number do`
 fn limit(reader: &mut Reader<'_>) -> Result<i128, Fault>
-    ensures value { Parses (Closed ReadsLiteral DoToken) Anything reader.old result reader.new }
+    ensures value { IfOk result (λ found. Closed ReadsLiteral DoToken reader.old found reader.new) }
+    ensures lands { (depth spare : ℕ) → Lands (token NumberToken ∷ token DoToken ∷ []) reader.old depth spare result reader.new depth weight_limit }
     ensures shorter { Consumes reader.old result reader.new }
 {
     let limit = reader.expect_number()?;
@@ -227,8 +240,8 @@ fn limit(reader: &mut Reader<'_>) -> Result<i128, Fault>
 
 /// After `print`: `value;`
 fn print(alloc: Global, reader: &mut Reader<'_>, line: u32) -> Result<Statement, Fault>
-    ensures value { (depth : ℕ) → Parses (λ terminals. ReadsStatement weight_limit depth (fixed PrintToken line ∷ terminals))
-        Anything reader.old result reader.new }
+    ensures value { (depth : ℕ) → IfOk result (λ found. ReadsStatement weight_limit depth (fixed PrintToken line ∷ reader.old) found reader.new) }
+    ensures lands { (depth spare : ℕ) → Lands (outermost ∷ token SemicolonToken ∷ []) reader.old depth spare result reader.new depth weight_limit }
     ensures shorter { Consumes reader.old result reader.new }
 {
     let value = value(alloc, reader)?;
@@ -237,7 +250,8 @@ fn print(alloc: Global, reader: &mut Reader<'_>, line: u32) -> Result<Statement,
 
 /// `value;`
 fn value(alloc: Global, reader: &mut Reader<'_>) -> Result<Expr, Fault>
-    ensures value { Parses (Closed (ReadsOutermost weight_limit) SemicolonToken) Anything reader.old result reader.new }
+    ensures value { IfOk result (λ found. Closed (ReadsOutermost weight_limit) SemicolonToken reader.old found reader.new) }
+    ensures lands { (depth spare : ℕ) → Lands (outermost ∷ token SemicolonToken ∷ []) reader.old depth spare result reader.new depth weight_limit }
     ensures shorter { Consumes reader.old result reader.new }
 {
     let value = expr(alloc, reader)?;
@@ -247,8 +261,8 @@ fn value(alloc: Global, reader: &mut Reader<'_>) -> Result<Expr, Fault>
 
 /// After `read`: `place;`
 fn read(alloc: Global, reader: &mut Reader<'_>, line: u32) -> Result<Statement, Fault>
-    ensures value { (depth : ℕ) → Parses (λ terminals. ReadsStatement weight_limit depth (fixed ReadToken line ∷ terminals))
-        Anything reader.old result reader.new }
+    ensures value { (depth : ℕ) → IfOk result (λ found. ReadsStatement weight_limit depth (fixed ReadToken line ∷ reader.old) found reader.new) }
+    ensures lands { (depth spare : ℕ) → Lands (token NameToken ∷ place_tail ∷ token SemicolonToken ∷ []) reader.old depth spare result reader.new depth weight_limit }
     ensures shorter { Consumes reader.old result reader.new }
 {
     let name = reader.expect_name(alloc)?;
@@ -263,8 +277,8 @@ fn assignment_or_call(
     reader: &mut Reader<'_>,
     name: Name,
 ) -> Result<Statement, Fault>
-    ensures value { (depth : ℕ) → Parses (λ terminals. ReadsStatement weight_limit depth (identifier name ∷ terminals))
-        Anything reader.old result reader.new }
+    ensures value { (depth : ℕ) → IfOk result (λ found. ReadsStatement weight_limit depth (identifier name ∷ reader.old) found reader.new) }
+    ensures lands { (depth spare : ℕ) → Lands (after_name ∷ []) reader.old depth spare result reader.new depth weight_limit }
     ensures shorter { Consumes reader.old result reader.new }
 {
     let line = name.line;
@@ -285,8 +299,8 @@ fn assignment_or_call(
 
 /// After a name: an index, or nothing.
 fn place(alloc: Global, reader: &mut Reader<'_>, name: Name) -> Result<Place, Fault>
-    ensures value { Parses (λ terminals. ReadsPlace weight_limit (identifier name ∷ terminals))
-        (NotFixed LeftBracket) reader.old result reader.new }
+    ensures value { IfOk result (λ found. ReadsPlace weight_limit (identifier name ∷ reader.old) found reader.new) }
+    ensures lands { (depth spare : ℕ) → Lands (place_tail ∷ []) reader.old depth spare result reader.new depth weight_limit }
     ensures shorter { length reader.new ≤ length reader.old }
 {
     if reader.take(TokenKind::LeftBracket).is_none() {
@@ -299,7 +313,8 @@ fn place(alloc: Global, reader: &mut Reader<'_>, name: Name) -> Result<Place, Fa
 
 /// After `(`: expressions with commas between them, or none, and `)`.
 fn arguments(alloc: Global, reader: &mut Reader<'_>) -> Result<Items<Expr>, Fault>
-    ensures value { Parses (ReadsListed (ReadsOutermost weight_limit)) Anything reader.old result reader.new }
+    ensures value { IfOk result (λ found. ReadsListed (ReadsOutermost weight_limit) reader.old found reader.new) }
+    ensures lands { (depth spare : ℕ) → Lands (listed ∷ []) reader.old depth spare result reader.new depth weight_limit }
     ensures shorter { Consumes reader.old result reader.new }
 {
     let mut found = Items::new(alloc);
@@ -316,7 +331,8 @@ fn arguments(alloc: Global, reader: &mut Reader<'_>) -> Result<Items<Expr>, Faul
 
 /// Two expressions with a comparison between them.
 fn condition(alloc: Global, reader: &mut Reader<'_>) -> Result<Condition, Fault>
-    ensures value { Parses (ReadsCondition weight_limit) (Ends sum) reader.old result reader.new }
+    ensures value { IfOk result (λ found. ReadsCondition weight_limit reader.old found reader.new) }
+    ensures lands { (depth spare : ℕ) → Lands (condition_wanted) reader.old depth spare result reader.new depth weight_limit }
     ensures shorter { Consumes reader.old result reader.new }
 {
     let line = reader.line();

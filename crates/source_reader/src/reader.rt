@@ -1,4 +1,6 @@
-ghost use Rattle.std.specs.Prelude.{◌≡◌, ◌≤◌, length};
+ghost use Rattle.std.specs.List.{All};
+ghost use Rattle.std.specs.Prelude.{◌≡◌, ◌<◌, ◌≤◌, ◌≤ℤ◌, IfOk, length, pos};
+ghost use Rattle.source_tree.specs.Numbers.{program_names, program_numbers};
 ghost use Rattle.source_reader.specs.Reading.{IsRead, line_of_place, text_limit};
 
 use crate::fault::{ReadFault, SourceFault, SourceKind};
@@ -9,9 +11,13 @@ use source_tree::Program;
 use std::alloc::Global;
 
 /// The program that a source text spells, or the first fault of one that spells none.
+///
+/// No number in the program is below 0, the bounds of ranges aside, and the names that it declares can be counted in a u32.
 pub fn read(alloc: Global, text: &[u8]) -> Result<Program, ReadFault>
     requires { length text.now ≤ text_limit }
-    ensures { IsRead text.now result }
+    ensures read { IsRead text.now result }
+    ensures numbers { IfOk result (λ program. All (λ n. pos 0 ≤ℤ n) (program_numbers program)) }
+    ensures names { IfOk result (λ program. program_names program < 4294967295) }
 {
     let tokens = match tokens(alloc, text) {
         Ok(tokens) => tokens,

@@ -1,27 +1,31 @@
-use Rattle.std.proofs.Common.{◌≤◌, length, arith}
-use Rattle.source_parser.specs.Limits.{depth_limit, weight_limit}
-use Rattle.source_parser.specs.Grammar.{ReadsDeclaration}
-use Rattle.source_parser.specs.Prefixes.{BeginsNoDeclaration}
-use Rattle.source_parser.proofs.AllOf.{all_turn, all_end}
-use Rattle.source_parser.proofs.Declarations.{declaration_begins}
-use Rattle.source_parser.proofs.AllOf.{next_fails}
+use Rattle.source_parser.specs.Grammar.{none, and_more}
+use Rattle.source_parser.specs.Landings.{reads}
+use Rattle.source_parser.proofs.ListLemmas.{list_starts, list_grows, list_ends}
+use Rattle.source_parser.proofs.Moves.{at_start, fails_in, and_again, and_no_more}
+use Rattle.source_parser.proofs.TokenMoves.{no_memory_for}
 use Rattle.source_parser.proofs.declaration.declarations.Goals as goal
 
-pub returns-in_err-next-clause-value : goal.returns-in_err-next-clause-value
-returns-in_err-next-clause-value c =
-    next_fails (ReadsDeclaration depth_limit weight_limit) BeginsNoDeclaration (declaration_begins depth_limit weight_limit) c.args.reader.now c.loop-found.reader c.declaration.new.reader c.loop-found.found c.loop-found.invariant
-    c.in_err-next.field-0.0 c.from_residual.result c.in_err-next.ensures.value c.from_residual.ensures.1
+pub loop-found-init : goal.loop-found-init
+loop-found-init c = rw c.new-found.ensures (list_starts, at_start)
+
+pub returns-in_err-next-clause-lands : goal.returns-in_err-next-clause-lands
+returns-in_err-next-clause-lands c = fails_in c.in_err-next.ensures.lands c.from_residual.ensures.1 c.loop-found.invariant.1
+
+pub returns-in_err-push-clause-lands : goal.returns-in_err-push-clause-lands
+returns-in_err-push-clause-lands c = no_memory_for c.from_residual-in_err-push.ensures.1
 
 pub loop-found-preserved : goal.loop-found-preserved
 loop-found-preserved c =
-    let now = c.loop-found.reader in
-    let next = c.declaration.new.reader in
-    let prefix = rw c.in-Some.is at c.in_ok-next.ensures.value in
-    let shorter = rw c.in-Some.is at c.in_ok-next.ensures.shorter in
-    let less : length next ≤ length now = omega (arith, shorter) in
-    rw c.in_ok-push.ensures.ok (all_turn (ReadsDeclaration depth_limit weight_limit) BeginsNoDeclaration (declaration_begins depth_limit weight_limit) c.args.reader.now now next c.loop-found.found c.in-Some.next c.loop-found.invariant prefix less)
+    let one = rw c.in-Some.is at c.in_ok-next.ensures.value in
+    let less = rw c.in-Some.is at c.in_ok-next.ensures.shorter in (
+      rw c.in_ok-push.ensures.ok (list_grows c.in-Some.next (λ more rest h. and_more one h) less c.loop-found.invariant.0),
+      and_again (rw c.in-Some.is at c.in_ok-next.ensures.lands) c.loop-found.invariant.1,
+    )
 
 pub returns-clause-value : goal.returns-clause-value
 returns-clause-value c =
-    let none = rw c.in_default.is at c.in_ok-next.ensures.value in
-    rw none.0 (all_end (ReadsDeclaration depth_limit weight_limit) BeginsNoDeclaration (declaration_begins depth_limit weight_limit) c.args.reader.now c.loop-found.reader c.loop-found.found c.loop-found.invariant none.1)
+    let end = rw c.in_default.is at c.in_ok-next.ensures.value in
+    rw end (list_ends none c.loop-found.invariant.0)
+
+pub returns-clause-lands : goal.returns-clause-lands
+returns-clause-lands c = reads (and_no_more (rw c.in_default.is at c.in_ok-next.ensures.lands) c.loop-found.invariant.1)

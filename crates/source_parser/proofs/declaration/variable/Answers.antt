@@ -1,7 +1,18 @@
-use Rattle.source_parser.specs.Limits.{depth_limit, weight_limit}
-use Rattle.source_parser.proofs.Ranges.{var_prefix}
+use Rattle.source_parser.specs.Grammar as grammar
+use Rattle.source_parser.specs.Landings.{reads}
+use Rattle.source_parser.proofs.Moves.{at_start, and_then, fails}
+use Rattle.source_parser.proofs.TokenMoves.{and_token, no_token}
 use Rattle.source_parser.proofs.declaration.variable.Goals as goal
 
+pub returns-in_err-name-clause-lands : goal.returns-in_err-name-clause-lands
+returns-in_err-name-clause-lands c = λ d w. fails _ (c.in_err-name.ensures.lands d w) c.from_residual.ensures.1 at_start
+
+pub returns-in_err-expect-clause-lands : goal.returns-in_err-expect-clause-lands
+returns-in_err-expect-clause-lands c = λ d w.
+    no_token c.in_err-expect.ensures.value c.from_residual-in_err-expect.ensures.1 (and_then _ (c.in_ok-name.ensures.lands d w) at_start)
+
 pub returns-clause-value : goal.returns-clause-value
-returns-clause-value c =
-    var_prefix depth_limit weight_limit c.args.line c.args.reader.now c.param.new.reader c.in_ok-name.field-0 c.in_ok-expect.field-0 c.expect.new.self c.in_ok-name.ensures.value c.in_ok-expect.ensures.value
+returns-clause-value c = grammar.var (rw c.in_ok-expect.ensures.value at c.in_ok-name.ensures.value)
+
+pub returns-clause-lands : goal.returns-clause-lands
+returns-clause-lands c = λ d w. reads (and_token c.in_ok-expect.ensures.value (and_then _ (c.in_ok-name.ensures.lands d w) at_start))

@@ -1,8 +1,9 @@
-use Rattle.std.proofs.Common.{◌+◌, ◌*◌, length}
+use Rattle.std.proofs.Common.{◌+◌, ◌*◌, [], ◌∷◌, length}
 use Rattle.source_parser.specs.Limits.{weight_limit}
 use Rattle.source_parser.specs.Grammar.{ReadsStatements}
-use Rattle.source_parser.specs.Prefixes.{BeginsNoStatement}
-use Rattle.source_parser.proofs.ListInvariants.{Listing}
+use Rattle.source_parser.specs.Landings.{Leads}
+use Rattle.source_parser.specs.Wants as wants
+use Rattle.source_parser.proofs.LoopInvariants.{Listing}
 use Rattle.source_parser.proofs.statement.+statement.Given as goal
 
 abbrev pub decreases-if_statement : goal.decreases-if_statement
@@ -30,7 +31,9 @@ abbrev pub decreases-body : goal.decreases-body
 decreases-body l = length l.reader.now * 4 + 3
 
 abbrev pub invariant-statements-loop-found : goal.invariant-statements-loop-found
-invariant-statements-loop-found l = Listing (ReadsStatements weight_limit l.depth) BeginsNoStatement l.fn.reader l.found l.reader
+invariant-statements-loop-found l =
+    Listing (ReadsStatements weight_limit l.depth) l.fn.reader l.found l.reader
+    × Leads (wants.statements ∷ []) l.fn.reader l.depth weight_limit (wants.statements ∷ []) l.reader l.depth weight_limit
 
 abbrev pub decreases-statements-loop-found : goal.decreases-statements-loop-found
 decreases-statements-loop-found l = length l.reader

@@ -1,79 +1,76 @@
-use Rattle.std.proofs.Common.{List, [], ◌∷◌, ◌++◌, refl, ap, ◌∙◌}
-use Rattle.std.proofs.lemmas.Result.{err_from_is_err_and}
+use Rattle.std.proofs.Common.{[], ◌∷◌, ◌++◌, List, refl, ap, ◌∙◌}
 use Rattle.source_lexer.specs.declared.token.TokenKind.TheVariants as kind
 use Rattle.source_tree.specs.declared.expression.Expr.{Expr}
 use Rattle.source_parser.specs.Limits.{weight_limit}
-use Rattle.source_parser.specs.Grammar.{sum, ReadsListed, ReadsOutermost}
-use Rattle.source_parser.specs.Prefixes.{Anything, Ends}
-use Rattle.source_parser.proofs.Sequences.{Ended, passes, taken, not_taken}
-use Rattle.source_parser.proofs.StatementParts.{no_expr_closes}
-use Rattle.source_parser.proofs.ListLemmas.{listed_empty, listed_none, gathering_begins, gathering_goes_on, gathering_ends, gathering_fails}
+use Rattle.source_parser.specs.Terminals.{kinds_of}
+use Rattle.source_parser.specs.Grammar.{things}
+use Rattle.source_parser.specs.Landings.{reads}
+use Rattle.source_parser.specs.Wants as wants
+use Rattle.source_parser.proofs.ListLemmas.{commas_start, commas_grow, listed_empty}
+use Rattle.source_parser.proofs.Moves.{at_start, and_then, fails, gives_up}
+use Rattle.source_parser.proofs.Runs.{listed_begins, commas_stop}
+use Rattle.source_parser.proofs.Taken.{taken, not_taken}
+use Rattle.source_parser.proofs.TokenMoves.{and_taken, instead, still, no_memory_for}
 use Rattle.source_parser.proofs.statement.arguments.Goals as goal
-
-closes : Ended (Ends sum) kind.RightParen
-closes line rest = refl
-
-separates : Ended (Ends sum) kind.Comma
-separates line rest = refl
 
 pub returns-then-is_some-clause-value : goal.returns-then-is_some-clause-value
 returns-then-is_some-clause-value c =
-    let old = c.args.reader.now in
-    let close = taken kind.RightParen old c.take.result c.take.new.self c.take.ensures.value c.if-is_some.ensures in
-    rw c.new-found.ensures (
-    listed_empty (ReadsOutermost weight_limit) (Ends sum) closes separates Anything old c.take.new.self close.0 close.1
-    (no_expr_closes weight_limit close.0 old c.take.new.self close.1)
-    )
+    let close = taken kind.RightParen c.args.reader.now c.take.result c.take.new.self c.take.ensures.value c.if-is_some.ensures in
+    rw c.new-found.ensures (listed_empty close.1)
 
-pub returns-in_err-expr-clause-value : goal.returns-in_err-expr-clause-value
-returns-in_err-expr-clause-value c =
-    let old = c.args.reader.now in
-    let open_ = not_taken kind.RightParen old c.take.result c.take.new.self c.take.ensures.value c.if-is_some.ensures in
-    let failed = err_from_is_err_and c.from_residual.result c.from_residual.ensures.1 in
-    rw (failed.1, failed.2) (
-    passes (ReadsOutermost weight_limit) (Ends sum) c.take.new.self c.expr.new.reader (ReadsListed (ReadsOutermost weight_limit)) Anything old c.expr.new.reader
-    c.in_err-expr.field-0.0 c.in_err-expr.ensures.value
-    (λ none. listed_none (ReadsOutermost weight_limit) (Ends sum) closes separates Anything old open_.1 (rw open_.0 at none))
-    )
+pub returns-then-is_some-clause-lands : goal.returns-then-is_some-clause-lands
+returns-then-is_some-clause-lands c = λ d w.
+    let close = taken kind.RightParen c.args.reader.now c.take.result c.take.new.self c.take.ensures.value c.if-is_some.ensures in
+    reads (and_taken [] close.1 (λ s ks. refl) at_start)
+
+pub returns-in_err-expr-clause-lands : goal.returns-in_err-expr-clause-lands
+returns-in_err-expr-clause-lands c = λ d w.
+    let open_ = not_taken kind.RightParen c.args.reader.now c.take.result c.take.new.self c.take.ensures.value c.if-is_some.ensures in
+    fails _ (c.in_err-expr.ensures.lands d w) c.from_residual.ensures.1
+    (still open_.0 (instead (wants.outermost ∷ wants.commas ∷ []) (λ s. listed_begins weight_limit s d w (kinds_of c.args.reader.now) open_.1) at_start))
+
+pub returns-in_err-push-clause-lands : goal.returns-in_err-push-clause-lands
+returns-in_err-push-clause-lands c = λ d w. no_memory_for c.from_residual-in_err-push.ensures.1
 
 pub loop-alloc-init : goal.loop-alloc-init
 loop-alloc-init c =
-    let old = c.args.reader.now in
-    let open_ = not_taken kind.RightParen old c.take.result c.take.new.self c.take.ensures.value c.if-is_some.ensures in
+    let open_ = not_taken kind.RightParen c.args.reader.now c.take.result c.take.new.self c.take.ensures.value c.if-is_some.ensures in
     let first = c.in_ok-expr.field-0 in
-    let pushed = c.in_ok-push.ensures.ok ∙ ap (λ (found : List Expr). found ++ first ∷ []) c.new-found.ensures in
-    gathering_begins (ReadsOutermost weight_limit) (Ends sum) closes separates old c.expr.new.reader first c.push.new.self open_.1
-    (rw open_.0 at c.in_ok-expr.ensures.value) pushed
-    (rw open_.0 at c.in_ok-expr.ensures.shorter)
-
-pub returns-in_err-expr-2-clause-value : goal.returns-in_err-expr-2-clause-value
-returns-in_err-expr-2-clause-value c =
-    let old = c.args.reader.now in
-    let behind = c.take-in-loop-alloc.new.self in
-    let comma = taken kind.Comma c.loop-alloc.reader c.take-in-loop-alloc.result behind c.take-in-loop-alloc.ensures.value c.loop-alloc-test.ensures in
-    let failed = err_from_is_err_and c.from_residual-in_err-expr-2.result c.from_residual-in_err-expr-2.ensures.1 in
-    let now = c.expr-in-loop-alloc.new.reader in
-    rw (failed.1, failed.2) (
-    passes (ReadsOutermost weight_limit) (Ends sum) behind now (ReadsListed (ReadsOutermost weight_limit)) Anything old now c.in_err-expr-2.field-0.0
-    c.in_err-expr-2.ensures.value
-    (gathering_fails (ReadsOutermost weight_limit) (Ends sum) closes separates Anything old c.loop-alloc.reader behind c.loop-alloc.found comma.0
-    c.loop-alloc.invariant comma.1)
+    let pushed = c.in_ok-push.ensures.ok ∙ ap (λ (found : List Expr). found ++ first ∷ []) c.new-found.ensures in (
+      rw pushed (commas_start first (rw open_.0 at c.in_ok-expr.ensures.value) (rw open_.0 at c.in_ok-expr.ensures.shorter)),
+      λ d w. and_then _ (c.in_ok-expr.ensures.lands d w)
+          (still open_.0 (instead (wants.outermost ∷ wants.commas ∷ []) (λ s. listed_begins weight_limit s d w (kinds_of c.args.reader.now) open_.1) at_start)),
     )
+
+pub returns-in_err-expr-2-clause-lands : goal.returns-in_err-expr-2-clause-lands
+returns-in_err-expr-2-clause-lands c = λ d w.
+    let sign = taken kind.Comma c.loop-alloc.reader c.take-in-loop-alloc.result c.take-in-loop-alloc.new.self c.take-in-loop-alloc.ensures.value c.loop-alloc-test.ensures in
+    fails _ (c.in_err-expr-2.ensures.lands d _) c.from_residual-in_err-expr-2.ensures.1
+    (and_taken (wants.outermost ∷ wants.commas ∷ []) sign.1 (λ s ks. refl) (c.loop-alloc.invariant.1 d w))
+
+pub returns-in_err-push-2-clause-lands : goal.returns-in_err-push-2-clause-lands
+returns-in_err-push-2-clause-lands c = λ d w. no_memory_for c.from_residual-in_err-push-2.ensures.1
 
 pub loop-alloc-preserved : goal.loop-alloc-preserved
 loop-alloc-preserved c =
-    let old = c.args.reader.now in
-    let behind = c.take-in-loop-alloc.new.self in
-    let comma = taken kind.Comma c.loop-alloc.reader c.take-in-loop-alloc.result behind c.take-in-loop-alloc.ensures.value c.loop-alloc-test.ensures in
-    gathering_goes_on (ReadsOutermost weight_limit) (Ends sum) closes separates old c.loop-alloc.reader behind c.expr-in-loop-alloc.new.reader c.loop-alloc.found
-    c.push-in-loop-alloc.new.self comma.0
-    c.in_ok-expr-2.field-0 c.loop-alloc.invariant comma.1 c.in_ok-expr-2.ensures.value c.in_ok-push-2.ensures.ok c.in_ok-expr-2.ensures.shorter
+    let sign = taken kind.Comma c.loop-alloc.reader c.take-in-loop-alloc.result c.take-in-loop-alloc.new.self c.take-in-loop-alloc.ensures.value c.loop-alloc-test.ensures in (
+      rw c.in_ok-push-2.ensures.ok (commas_grow c.in_ok-expr-2.field-0 sign.1 c.in_ok-expr-2.ensures.value c.in_ok-expr-2.ensures.shorter c.loop-alloc.invariant.0),
+      λ d w. and_then _ (c.in_ok-expr-2.ensures.lands d _) (and_taken (wants.outermost ∷ wants.commas ∷ []) sign.1 (λ s ks. refl) (c.loop-alloc.invariant.1 d w)),
+    )
+
+pub returns-in_err-expect-clause-lands : goal.returns-in_err-expect-clause-lands
+returns-in_err-expect-clause-lands c = λ d w.
+    let ended = not_taken kind.Comma c.loop-alloc.reader c.take-in-loop-alloc.result c.take-in-loop-alloc.new.self c.take-in-loop-alloc.ensures.value c.loop-alloc-test.ensures in
+    let missing = rw ended.0 at c.in_err-expect.ensures.value in
+    gives_up [] {part = wants.commas ∷ []} (record { comes = λ s. commas_stop weight_limit s d weight_limit (kinds_of c.loop-alloc.reader) ended.1 missing.1.1 }) missing.0 missing.1.0 c.from_residual-in_err-expect.ensures.1
+    (c.loop-alloc.invariant.1 d w)
 
 pub returns-clause-value : goal.returns-clause-value
 returns-clause-value c =
-    let old = c.args.reader.now in
-    let ended = not_taken kind.Comma c.loop-alloc.reader c.take-in-loop-alloc.result c.take-in-loop-alloc.new.self c.take-in-loop-alloc.ensures.value
-    c.loop-alloc-test.ensures in
-    gathering_ends (ReadsOutermost weight_limit) (Ends sum) closes separates Anything old c.loop-alloc.reader c.expect.new.self c.loop-alloc.found
-    c.in_ok-expect.field-0 c.loop-alloc.invariant
-    (rw ended.0 at c.in_ok-expect.ensures.value)
+    let ended = not_taken kind.Comma c.loop-alloc.reader c.take-in-loop-alloc.result c.take-in-loop-alloc.new.self c.take-in-loop-alloc.ensures.value c.loop-alloc-test.ensures in
+    things (c.loop-alloc.invariant.0.ends c.expect.new.self c.in_ok-expect.field-0 (rw ended.0 at c.in_ok-expect.ensures.value))
+
+pub returns-clause-lands : goal.returns-clause-lands
+returns-clause-lands c = λ d w.
+    let ended = not_taken kind.Comma c.loop-alloc.reader c.take-in-loop-alloc.result c.take-in-loop-alloc.new.self c.take-in-loop-alloc.ensures.value c.loop-alloc-test.ensures in
+    reads (and_taken [] (rw ended.0 at c.in_ok-expect.ensures.value) (λ s ks. refl) (c.loop-alloc.invariant.1 d w))

@@ -1,34 +1,17 @@
-use Rattle.std.proofs.lemmas.Result.{err_from_is_err_and}
-use Rattle.source_lexer.specs.declared.token.TokenKind.TheVariants as kind
-use Rattle.source_parser.specs.Limits.{weight_limit}
-use Rattle.source_parser.specs.Grammar.{sum, ReadsOutermost}
-use Rattle.source_parser.specs.Prefixes.{Anything, Ends}
-use Rattle.source_parser.proofs.Sequences.{passes, fails, closed_prefix, closed_none, closed_missing}
-use Rattle.source_parser.proofs.StatementParts.{SemicolonExpr, semicolon_ended}
+use Rattle.source_parser.specs.Landings.{reads}
+use Rattle.source_parser.proofs.Moves.{at_start, and_then, fails}
+use Rattle.source_parser.proofs.TokenMoves.{and_token, no_token}
 use Rattle.source_parser.proofs.statement.value.Goals as goal
 
-pub returns-in_err-value-clause-value : goal.returns-in_err-value-clause-value
-returns-in_err-value-clause-value c =
-    let old = c.args.reader.now in
-    let failed = err_from_is_err_and c.from_residual.result c.from_residual.ensures.1 in
-    rw (failed.1, failed.2) (
-    passes (ReadsOutermost weight_limit) (Ends sum) old c.expr.new.reader (SemicolonExpr weight_limit) Anything old c.expr.new.reader
-    c.in_err-value.field-0.0 c.in_err-value.ensures.value
-    (closed_none (ReadsOutermost weight_limit) (Ends sum) kind.Semicolon semicolon_ended Anything old)
-    )
+pub returns-in_err-value-clause-lands : goal.returns-in_err-value-clause-lands
+returns-in_err-value-clause-lands c = λ d w. fails _ (c.in_err-value.ensures.lands d w) c.from_residual.ensures.1 at_start
 
-pub returns-in_err-expect-clause-value : goal.returns-in_err-expect-clause-value
-returns-in_err-expect-clause-value c =
-    let old = c.args.reader.now in
-    let failed = err_from_is_err_and c.from_residual-in_err-expect.result c.from_residual-in_err-expect.ensures.1 in
-    rw (failed.1, failed.2) (
-    fails (SemicolonExpr weight_limit) Anything old c.expect.new.self c.in_err-expect.field-0.0
-    (closed_missing (ReadsOutermost weight_limit) (Ends sum) kind.Semicolon semicolon_ended Anything old c.expr.new.reader c.in_ok-value.value
-    c.in_ok-value.ensures.value c.in_err-expect.ensures.value.1)
-    )
+pub returns-in_err-expect-clause-lands : goal.returns-in_err-expect-clause-lands
+returns-in_err-expect-clause-lands c = λ d w.
+    no_token c.in_err-expect.ensures.value c.from_residual-in_err-expect.ensures.1 (and_then _ (c.in_ok-value.ensures.lands d w) at_start)
 
 pub returns-clause-value : goal.returns-clause-value
-returns-clause-value c =
-    let old = c.args.reader.now in
-    closed_prefix (ReadsOutermost weight_limit) (Ends sum) kind.Semicolon semicolon_ended Anything old c.expr.new.reader c.expect.new.self c.in_ok-value.value
-    c.in_ok-expect.field-0 c.in_ok-value.ensures.value c.in_ok-expect.ensures.value
+returns-clause-value c = record { line = c.in_ok-expect.field-0; reads = rw c.in_ok-expect.ensures.value at c.in_ok-value.ensures.value }
+
+pub returns-clause-lands : goal.returns-clause-lands
+returns-clause-lands c = λ d w. reads (and_token c.in_ok-expect.ensures.value (and_then _ (c.in_ok-value.ensures.lands d w) at_start))
