@@ -48,7 +48,7 @@ divisor_positive (pos zero) h = cc
 divisor_positive (pos (suc n)) h = omega arith
 divisor_positive (negsuc n) h = omega arith
 
-divisor_fits : (set : ModuliSet) (y : ℤ) → IsInRange set y → unsigned_abs y ≤ range_bound set
+pub divisor_fits : (set : ModuliSet) (y : ℤ) → IsInRange set y → unsigned_abs y ≤ range_bound set
 divisor_fits set (pos n) h = let high = h.high in omega (arith, ints)
 divisor_fits set (negsuc n) h = let low = h.low in omega (arith, ints)
 
@@ -227,6 +227,3 @@ IsInRange-floor_div set x y apart h =
     let z = signed (is_negative y) x in
     let positive = divisor_positive y apart in
     subst (IsInRange set) (sym (floor_div-signed x y)) (IsInRange-quotient set z (unsigned_abs y) (omega arith) (IsInRange-signed set (is_negative y) x h))
-
-pub divisor_in_range : (set : ModuliSet) (y : ℤ) → IsInRange set y → unsigned_abs y ≤ range_bound set
-divisor_in_range = divisor_fits

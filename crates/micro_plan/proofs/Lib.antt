@@ -4,3 +4,4 @@ pub mod DivisionSigns
 pub mod ToldInstructions
 pub mod ToldRuns
 pub mod PerformLemmas
+mod RowsOfActs

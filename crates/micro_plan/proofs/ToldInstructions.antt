@@ -1,5 +1,5 @@
 -- The acts of each instruction come to what the integer machine says of it.
-use Rattle.std.proofs.Common.{◌≡◌, ℕ, zero, suc, ◌+◌, ◌-◌, ◌^◌, ◌<◌, ◌≤◌, Bool, true, false, List, [], ◌∷◌, take, length, slice_index, All, refl, sym, subst, arith, ℤ, pos, neg_ℤ, ◌+ℤ◌, ◌-ℤ◌, ◌*ℤ◌, div-le_self, length-drop}
+use Rattle.std.proofs.Common.{◌≡◌, ℕ, zero, suc, ◌+◌, ◌-◌, ◌^◌, ◌<◌, ◌≤◌, Bool, true, false, List, [], ◌∷◌, take, length, slice_index, All, refl, sym, subst, arith, ℤ, pos, neg_ℤ, ◌+ℤ◌, ◌-ℤ◌, ◌*ℤ◌, ◌≤ℤ◌, div-le_self, length-drop}
 use Rattle.std.specs.Prelude.{if◌then◌else◌, int_le, nat_lt, unsigned_abs, T}
 use Rattle.std.specs.List.{AllByRecursion as ByRecursion}
 use Rattle.std.specs.Int.Signed.{le_z_yes}
@@ -21,11 +21,12 @@ use Rattle.machine_table.specs.Control.{Control, next, with_input, with_places, 
 use Rattle.machine_table.specs.Integers.{Memory, IntegerRun, stands, unfit, with_register, with_word, computes, divides, reads, returns, is_index, step, IsFit}
 use Rattle.machine_table.specs.Operands.{Shape, IsSoundOperand, operands_of}
 use Rattle.micro_plan.specs.ActTree.{Acts, go_on, end_by}
-use Rattle.micro_plan.specs.Division.{quotient_plan, remainder_plan, quotient_acts, remainder_acts, sign_acts, turning_acts, counting_acts, is_turned}
+use Rattle.micro_plan.specs.Division.{division_acts, quotient_plan, remainder_plan, quotient_acts, remainder_acts, sign_acts, turning_acts, counting_acts, is_turned}
 use Rattle.micro_plan.specs.Acts.{issues, read_acts, return_acts, acts_of}
 use Rattle.micro_plan.specs.Told.{memory_of, AreInRange}
 use Rattle.micro_plan.proofs.ToldLemmas.{ComesTo, ComesTo-or_end, ComesTo-end_or, AreInRange-with, IsInRange-neg, IsInRange-between, IsInRange-quotient}
-use Rattle.micro_plan.proofs.DivisionSigns.{signed, quotient_is, remainder_is, division-comes, quotient-comes, remainder-comes, IsInRange-floor_div, divisor_in_range}
+use Rattle.micro_plan.proofs.DivisionSigns.{signed, dividend, quotient_is, remainder_is, division-comes, quotient-comes, remainder-comes, IsInRange-floor_div, divisor_fits}
+use Rattle.micro_plan.proofs.DivisionLoops.{IsCounting}
 
 -- ---- sets
 product_positive : (ms : List ℕ) → ByRecursion IsModulus ms → 1 ≤ product ms
@@ -56,15 +57,10 @@ info_below set rules =
     omega (arith, length-drop set.info set.moduli)
 
 -- ---- tests
-in_range_by : (set : ModuliSet) (low high x : ℤ) → IsInRange set low → IsInRange set high → lies_in low high x ≡ true → IsInRange set x
-in_range_by set low high x l h e =
+within : (low high x : ℤ) → lies_in low high x ≡ true → (low ≤ℤ x) × (x ≤ℤ high)
+within low high x e =
     let both = and_parts (int_le low x) (int_le x high) e in
-    IsInRange-between set low high x l h (le_z_yes (subst T (sym both.0) tt)) (le_z_yes (subst T (sym both.1) tt))
-
-in_range_from : (set : ModuliSet) (x : ℤ) → lies_in (neg_ℤ (pos (range_bound set))) (pos (range_bound set)) x ≡ true → IsInRange set x
-in_range_from set x e =
-    let both = and_parts (int_le (neg_ℤ (pos (range_bound set))) x) (int_le x (pos (range_bound set))) e in
-    record { low = le_z_yes (subst T (sym both.0) tt); high = le_z_yes (subst T (sym both.1) tt) }
+    (le_z_yes (subst T (sym both.0) tt), le_z_yes (subst T (sym both.1) tt))
 
 passed : (t : Bool) (run : IntegerRun) → IsFit (if t then run else unfit) → (t ≡ true) × ((if t then run else unfit) ≡ run)
 passed true run fit = (refl, refl)
@@ -76,7 +72,8 @@ computed : (set : ModuliSet) (a : ℕ) (x : ℤ) (control : Control) (memory : M
 computed set a x control memory fit =
     let bound = pos (range_bound set) in
     let p = passed (lies_in (neg_ℤ bound) bound x) (stands (next control) (with_register a x memory)) fit in
-    (in_range_from set x p.0, p.1)
+    let ends = within (neg_ℤ bound) bound x p.0 in
+    (record { low = ends.0; high = ends.1 }, p.1)
 
 -- ---- reading and returning
 reads-comes : (set : ModuliSet) (a : ℕ) (low high : ℤ) (line : ℕ) (input : List ℤ) (control : Control) (at : Place → ℤ) → IsInRange set low → IsInRange set high → AreInRange set at
@@ -85,40 +82,45 @@ reads-comes set a low high line [] control at l h fits = (refl, tt)
 reads-comes set a low high line (x ∷ rest) control at l h fits =
     ComesTo-or_end set (lies_in low high x) (issues (micro.Put (Reg a) x) (with_input rest control)) (traps InputRange line) at
     (stands (next (with_input rest control)) (with_register a x (memory_of at)))
-    (λ e. (refl, (tt, AreInRange-with set at (Reg a) x fits (in_range_by set low high x l h e), tt)))
+    (λ e. let ends = within low high x e in
+    (refl, (tt, AreInRange-with set at (Reg a) x fits (IsInRange-between set low high x l h ends.0 ends.1), tt)))
 
 returns-comes : (set : ModuliSet) (line : ℕ) (places : List ℕ) (control : Control) (at : Place → ℤ) → ComesTo set (return_acts line places control) at (returns line places control (memory_of at))
 returns-comes set line [] control at = (refl, tt)
 returns-comes set line (place ∷ places) control at = (refl, tt)
 
 -- ---- dividing
+-- a plan whose last operations make v in register a
+divides-comes : (set : ModuliSet) (a b c line : ℕ) (v : ℤ) (control : Control) (at : Place → ℤ) (finish : Bool → Bool → Acts) → IsModuliSet set → AreInRange set at
+    → (is_zero (at (Reg c)) ≡ false → (at' : Place → ℤ) (r q : ℕ) → IsCounting set (memory_of at) (unsigned_abs (at (Reg c))) (dividend (signed (is_negative (at (Reg c))) (at (Reg b)))) r q at' → r < unsigned_abs (at (Reg c))
+    → ComesTo set (finish (is_negative (at (Reg c))) (is_negative (signed (is_negative (at (Reg c))) (at (Reg b))))) at' (stands (next control) (with_register a v (memory_of at))))
+    → ComesTo set (division_acts b c (end_by (traps Zero line)) finish) at (divides a (at (Reg c)) v line control (memory_of at))
+divides-comes set a b c line v control at finish rules fits last =
+    let x = at (Reg b) in
+    let y = at (Reg c) in
+    let run = stands (next control) (with_register a v (memory_of at)) in
+    ComesTo-end_or set (is_zero y) (sign_acts (is_negative y) b c (turning_acts (is_turned x y) (counting_acts (finish (is_negative y) (is_turned x y))))) (traps Zero line) at run
+    (λ apart. division-comes set run (bound_some set rules) b c at finish (bound_small set rules) fits apart (last apart))
+
 quotient_plan-comes : (set : ModuliSet) (a b c line : ℕ) (control : Control) (at : Place → ℤ) → IsModuliSet set → AreInRange set at
     → ComesTo set (quotient_plan a b c (end_by (traps Zero line)) (go_on (next control))) at (divides a (at (Reg c)) (floor_div (at (Reg b)) (at (Reg c))) line control (memory_of at))
 quotient_plan-comes set a b c line control at rules fits =
     let x = at (Reg b) in
     let y = at (Reg c) in
-    let z = signed (is_negative y) x in
     let v = floor_div x y in
-    let run = stands (next control) (with_register a v (memory_of at)) in
-    let finish : Bool → Bool → Acts = λ negative turned. quotient_acts a turned (go_on (next control)) in
-    ComesTo-end_or set (is_zero y) (sign_acts (is_negative y) b c (turning_acts (is_turned x y) (counting_acts (finish (is_negative y) (is_turned x y))))) (traps Zero line) at run
-    (λ apart. division-comes set run (bound_some set rules) b c at finish (bound_small set rules) fits apart
-    (λ at' r q h below. quotient-comes set a (next control) (memory_of at) (bound_some set rules) z v (unsigned_abs y) r q at' h
-    (quotient_is x y r q below h.whole) (IsInRange-floor_div set x y apart (fits (Reg b)))))
+    divides-comes set a b c line v control at (λ negative turned. quotient_acts a turned (go_on (next control))) rules fits
+    (λ apart at' r q h below. quotient-comes set a (next control) (memory_of at) (bound_some set rules) (signed (is_negative y) x) v (unsigned_abs y) r q at' h
+    (quotient_is x y r q below h.whole) (IsInRange-floor_div set x y apart (fits (Reg b))))
 
 remainder_plan-comes : (set : ModuliSet) (a b c line : ℕ) (control : Control) (at : Place → ℤ) → IsModuliSet set → AreInRange set at
     → ComesTo set (remainder_plan a b c (end_by (traps Zero line)) (go_on (next control))) at (divides a (at (Reg c)) (floor_mod (at (Reg b)) (at (Reg c))) line control (memory_of at))
 remainder_plan-comes set a b c line control at rules fits =
     let x = at (Reg b) in
     let y = at (Reg c) in
-    let z = signed (is_negative y) x in
     let v = floor_mod x y in
-    let run = stands (next control) (with_register a v (memory_of at)) in
-    let finish : Bool → Bool → Acts = λ negative turned. remainder_acts a negative turned (go_on (next control)) in
-    ComesTo-end_or set (is_zero y) (sign_acts (is_negative y) b c (turning_acts (is_turned x y) (counting_acts (finish (is_negative y) (is_turned x y))))) (traps Zero line) at run
-    (λ apart. division-comes set run (bound_some set rules) b c at finish (bound_small set rules) fits apart
-    (λ at' r q h below. remainder-comes set a (next control) (memory_of at) (bound_some set rules) (is_negative y) z v (unsigned_abs y) r q at' h
-    below (divisor_in_range set y (fits (Reg c))) (remainder_is x y r q apart below h.whole)))
+    divides-comes set a b c line v control at (λ negative turned. remainder_acts a negative turned (go_on (next control))) rules fits
+    (λ apart at' r q h below. remainder-comes set a (next control) (memory_of at) (bound_some set rules) (is_negative y) (signed (is_negative y) x) v (unsigned_abs y) r q at' h
+    below (divisor_fits set y (fits (Reg c))) (remainder_is x y r q apart below h.whole))
 
 -- ---- one instruction
 step_by : (shape : Shape) (instr : Instr) (control : Control) (at : Place → ℤ) → IsModuliSet shape.set → ByRecursion (IsSoundOperand shape) (operands_of instr) → AreInRange shape.set at
