@@ -5,6 +5,10 @@
 //! the operations of `channel_alu`; the machine stands on it.
 #![tactic(auto)]
 
+mod laws;
 mod next;
 
+pub use laws::{
+    acts_can_be_performed, acts_follow_the_integer_machine, runs_follow_the_integer_machine,
+};
 pub use next::Next;

@@ -1,0 +1,224 @@
+-- The loops of a division find how often the divisor goes into the dividend, and keep in range.
+use Rattle.std.proofs.Common.{◌≡◌, ℕ, zero, suc, ◌+◌, ◌-◌, ◌*◌, ◌^◌, ◌<◌, ◌≤◌, ◌==◌, Bool, true, false, ◌||◌, refl, ap, ◌∙◌, arith, inl, inr, ℤ, pos, negsuc, ◌+ℤ◌, ◌-ℤ◌}
+use Rattle.std.proofs.lemmas.Bool.{cases_lt, ne_eqb}
+use Rattle.std.proofs.lemmas.Int.{ints}
+use Rattle.std.proofs.Math.Nat.{pow-succ', mul-le-mul_left, mul-one}
+use Rattle.moduli_sets.specs.Set.{ModuliSet, range_bound}
+use Rattle.channel_alu.specs.declared.operation.Place.{Place}
+use Rattle.channel_alu.specs.declared.operation.Place.TheVariants.{Scratch}
+use Rattle.channel_lane.specs.Meaning.{with_integer}
+use Rattle.machine_table.specs.Control.{is_negative}
+use Rattle.machine_table.specs.Integers.{Memory, IntegerRun}
+use Rattle.micro_plan.specs.ActTree.{Acts}
+use Rattle.micro_plan.specs.Division.{doubling_acts, subtracting_acts, counting_acts}
+use Rattle.micro_plan.specs.Told.{memory_of, AreInRange}
+use Rattle.micro_plan.proofs.ToldLemmas.{ComesTo, issued, ComesTo-if, ComesTo-else, same_sum, same_difference, AreInRange-with, IsInRange-natural, IsInRange-difference}
+
+-- s1 is the divisor, s0 is r, which is left of the dividend n, and s5 is q, how often the divisor was taken off
+pub record IsCounting (set : ModuliSet) (memory : Memory) (y n r q : ℕ) (at : Place → ℤ) : Type 0 where
+  pub in_range : AreInRange set at
+  pub kept : memory_of at ≡ memory
+  pub rest_is : at (Scratch 0) ≡ pos r
+  pub divisor_is : at (Scratch 1) ≡ pos y
+  pub count_is : at (Scratch 5) ≡ pos q
+  pub whole : r + q * y ≡ n
+
+-- s2 is p, the divisor times the power s3, and s4 is u, which p leaves of r
+pub record IsDoubling (set : ModuliSet) (memory : Memory) (y n r q u p power : ℕ) (at : Place → ℤ) : Type 0 where
+  pub in_range : AreInRange set at
+  pub kept : memory_of at ≡ memory
+  pub divisor_is : at (Scratch 1) ≡ pos y
+  pub multiple_is : at (Scratch 2) ≡ pos p
+  pub power_is : at (Scratch 3) ≡ pos power
+  pub left_is : at (Scratch 4) ≡ pos u
+  pub count_is : at (Scratch 5) ≡ pos q
+  pub whole : r + q * y ≡ n
+  pub left : u + p ≡ r
+  pub times : p ≡ power * y
+
+-- ---- the test of a loop
+is_left : (x y : ℤ) (u p : ℕ) (last : Bool) → x ≡ pos u → y ≡ pos p → u < p → (is_negative (x -ℤ y) || last) ≡ true
+is_left x y u p last e f below =
+    let negative : pos u -ℤ pos p ≡ negsuc (p - u - 1) = omega (arith, ints) in
+    ap (λ z. is_negative z || last) (same_difference x (pos u) y (pos p) e f ∙ negative)
+
+minus_is : (x y : ℤ) (u p : ℕ) → x ≡ pos u → y ≡ pos p → p ≤ u → x -ℤ y ≡ pos (u - p)
+minus_is x y u p e f above =
+    let natural : pos u -ℤ pos p ≡ pos (u - p) = omega (arith, ints) in
+    same_difference x (pos u) y (pos p) e f ∙ natural
+
+goes_on : (x y : ℤ) (u p k : ℕ) → x ≡ pos u → y ≡ pos p → p ≤ u → (is_negative (x -ℤ y) || (suc k == 0)) ≡ false
+goes_on x y u p k e f above =
+    ap (λ z. is_negative z || (suc k == 0)) (minus_is x y u p e f above) ∙ ne_eqb (suc k) 0 (λ same. omega arith)
+
+-- ---- numbers on the way
+pub le_times : (n y : ℕ) → 1 ≤ y → n ≤ n * y
+le_times n y h = omega (arith, mul-le-mul_left n h, mul-one n)
+
+power_below : (power y p : ℕ) → 1 ≤ y → p ≡ power * y → power ≤ p
+power_below power y p positive e = omega (arith, le_times power y positive)
+
+count_below : (q power y n r u p : ℕ) → 1 ≤ y → r + q * y ≡ n → u + p ≡ r → p ≡ power * y → q + power ≤ n
+count_below q power y n r u p positive whole left times = omega (arith, le_times (q + power) y positive)
+
+room_doubled : (k r p : ℕ) → r < 2 ^ suc (suc k) * p → r < 2 ^ suc k * (p + p)
+room_doubled k r p h =
+    let e : 2 ^ suc (suc k) * p ≡ 2 * 2 ^ suc k * p = ap (λ n. n * p) (pow-succ' 2 (suc k)) in
+    omega arith
+
+room_halved : (k r y left : ℕ) → r < 2 ^ suc k * y → left + left < r → left < 2 ^ k * y
+room_halved k r y left h half =
+    let e : 2 ^ suc k * y ≡ 2 * 2 ^ k * y = ap (λ n. n * y) (pow-succ' 2 k) in
+    omega arith
+
+-- ---- a division of n by y, after which the registers and words are what they were
+module _ (set : ModuliSet) (run : IntegerRun) (memory : Memory) (y n : ℕ) (positive : 1 ≤ y) (y_fits : y ≤ range_bound set) (n_fits : n ≤ range_bound set) where
+  -- acts that follow a doubling loop: it leaves less than half
+  abbrev pub FollowDoubling : ℕ → Acts → Type 0
+  FollowDoubling r acts = (at : Place → ℤ) (left q : ℕ) → IsCounting set memory y n left q at → left + left < r → ComesTo set acts at run
+
+  doubling-last : (k r q u p power : ℕ) (at : Place → ℤ) (rest : Acts) → IsDoubling set memory y n r q u p power at → u < p → FollowDoubling r rest → ComesTo set (doubling_acts (suc k) rest) at run
+  doubling-last k r q u p power at rest h below follow =
+      let left = h.left in
+      let whole = h.whole in
+      let times = h.times in
+      let d = at (Scratch 4) -ℤ at (Scratch 2) in
+      let count = at (Scratch 5) +ℤ at (Scratch 3) in
+      let count_is = same_sum (at (Scratch 5)) (pos q) (at (Scratch 3)) (pos power) h.count_is h.power_is in
+      let count_fits = count_below q power y n r u p positive whole left times in
+      let at_1 = with_integer at (Scratch 6) d in
+      let at_2 = with_integer at_1 (Scratch 0) (at (Scratch 4)) in
+      let at_3 = with_integer at_2 (Scratch 5) count in
+      let in_1 = AreInRange-with set at (Scratch 6) d h.in_range (IsInRange-difference set (at (Scratch 4)) (at (Scratch 2)) u p h.left_is h.multiple_is (omega arith) (omega arith)) in
+      let in_2 = AreInRange-with set at_1 (Scratch 0) (at (Scratch 4)) in_1 (h.in_range (Scratch 4)) in
+      let in_3 = AreInRange-with set at_2 (Scratch 5) count in_2 (IsInRange-natural set count (q + power) count_is (omega arith)) in
+      let counting : IsCounting set memory y n u (q + power) at_3 = record {
+        in_range = in_3;
+        kept = h.kept;
+        rest_is = h.left_is;
+        divisor_is = h.divisor_is;
+        count_is = count_is;
+        whole = omega arith;
+      } in
+      issued tt in_1
+      (ComesTo-if set _ _ _ at_1 run (is_left (at (Scratch 4)) (at (Scratch 2)) u p (k == 0) h.left_is h.multiple_is below)
+      (issued tt in_2 (issued tt in_3 (follow at_3 u (q + power) counting (omega arith)))))
+
+  doubling-comes : (k r q u p power : ℕ) (at : Place → ℤ) (rest : Acts) → IsDoubling set memory y n r q u p power at → r < 2 ^ suc k * p → FollowDoubling r rest → ComesTo set (doubling_acts (suc k) rest) at run
+  doubling-comes zero r q u p power at rest h room follow =
+      let twice : r < 2 * p = room in
+      let left = h.left in
+      doubling-last zero r q u p power at rest h (omega arith) follow
+  doubling-comes (suc k) r q u p power at rest h room follow =
+      elim (cases_lt u p) [
+        | inl below ↦ doubling-last (suc k) r q u p power at rest h below follow
+        | inr above ↦
+            let left = h.left in
+            let whole = h.whole in
+            let times = h.times in
+            let power_fits = power_below power y p positive times in
+            let d = at (Scratch 4) -ℤ at (Scratch 2) in
+            let multiple = at (Scratch 2) +ℤ at (Scratch 2) in
+            let twice = at (Scratch 3) +ℤ at (Scratch 3) in
+            let multiple_is = same_sum (at (Scratch 2)) (pos p) (at (Scratch 2)) (pos p) h.multiple_is h.multiple_is in
+            let twice_is = same_sum (at (Scratch 3)) (pos power) (at (Scratch 3)) (pos power) h.power_is h.power_is in
+            let at_1 = with_integer at (Scratch 6) d in
+            let at_2 = with_integer at_1 (Scratch 2) multiple in
+            let at_3 = with_integer at_2 (Scratch 3) twice in
+            let at_4 = with_integer at_3 (Scratch 4) d in
+            let d_fits = IsInRange-difference set (at (Scratch 4)) (at (Scratch 2)) u p h.left_is h.multiple_is (omega arith) (omega arith) in
+            let in_1 = AreInRange-with set at (Scratch 6) d h.in_range d_fits in
+            let in_2 = AreInRange-with set at_1 (Scratch 2) multiple in_1 (IsInRange-natural set multiple (p + p) multiple_is (omega arith)) in
+            let in_3 = AreInRange-with set at_2 (Scratch 3) twice in_2 (IsInRange-natural set twice (power + power) twice_is (omega arith)) in
+            let in_4 = AreInRange-with set at_3 (Scratch 4) d in_3 d_fits in
+            let doubling : IsDoubling set memory y n r q (u - p) (p + p) (power + power) at_4 = record {
+              in_range = in_4;
+              kept = h.kept;
+              divisor_is = h.divisor_is;
+              multiple_is = multiple_is;
+              power_is = twice_is;
+              left_is = minus_is (at (Scratch 4)) (at (Scratch 2)) u p h.left_is h.multiple_is above;
+              count_is = h.count_is;
+              whole = whole;
+              left = omega arith;
+              times = omega arith;
+            } in
+            issued tt in_1
+            (ComesTo-else set _ _ _ at_1 run (goes_on (at (Scratch 4)) (at (Scratch 2)) u p k h.left_is h.multiple_is above)
+            (issued tt in_2 (issued tt in_3 (issued tt in_4
+            (doubling-comes k r q (u - p) (p + p) (power + power) at_4 rest doubling (room_doubled k r p room) follow)))))
+      ]
+
+  -- acts that follow the counting: the divisor no longer goes into what is left
+  abbrev pub FollowCounting : Acts → Type 0
+  FollowCounting acts = (at : Place → ℤ) (r q : ℕ) → IsCounting set memory y n r q at → r < y → ComesTo set acts at run
+
+  subtracting-last : (k r q : ℕ) (at : Place → ℤ) (finish : Acts) → IsCounting set memory y n r q at → r < y → FollowCounting finish → ComesTo set (subtracting_acts (suc k) finish) at run
+  subtracting-last k r q at finish h below follow =
+      let whole = h.whole in
+      let d = at (Scratch 0) -ℤ at (Scratch 1) in
+      let at_1 = with_integer at (Scratch 4) d in
+      let in_1 = AreInRange-with set at (Scratch 4) d h.in_range (IsInRange-difference set (at (Scratch 0)) (at (Scratch 1)) r y h.rest_is h.divisor_is (omega arith) y_fits) in
+      let counting : IsCounting set memory y n r q at_1 = record {
+        in_range = in_1;
+        kept = h.kept;
+        rest_is = h.rest_is;
+        divisor_is = h.divisor_is;
+        count_is = h.count_is;
+        whole = whole;
+      } in
+      issued tt in_1
+      (ComesTo-if set _ _ _ at_1 run (is_left (at (Scratch 0)) (at (Scratch 1)) r y (k == 0) h.rest_is h.divisor_is below)
+      (follow at_1 r q counting below))
+
+  subtracting-comes : (k r q : ℕ) (at : Place → ℤ) (finish : Acts) → IsCounting set memory y n r q at → r < 2 ^ k * y → range_bound set < 2 ^ 127 → FollowCounting finish → ComesTo set (subtracting_acts (suc k) finish) at run
+  subtracting-comes zero r q at finish h room small follow =
+      let once : r < 1 * y = room in
+      subtracting-last zero r q at finish h (omega arith) follow
+  subtracting-comes (suc k) r q at finish h room small follow =
+      elim (cases_lt r y) [
+        | inl below ↦ subtracting-last (suc k) r q at finish h below follow
+        | inr above ↦
+            let whole = h.whole in
+            let d = at (Scratch 0) -ℤ at (Scratch 1) in
+            let at_1 = with_integer at (Scratch 4) d in
+            let at_2 = with_integer at_1 (Scratch 2) (at (Scratch 1)) in
+            let at_3 = with_integer at_2 (Scratch 3) (pos 1) in
+            let in_1 = AreInRange-with set at (Scratch 4) d h.in_range (IsInRange-difference set (at (Scratch 0)) (at (Scratch 1)) r y h.rest_is h.divisor_is (omega arith) y_fits) in
+            let in_2 = AreInRange-with set at_1 (Scratch 2) (at (Scratch 1)) in_1 (h.in_range (Scratch 1)) in
+            let in_3 = AreInRange-with set at_2 (Scratch 3) (pos 1) in_2 (IsInRange-natural set (pos 1) 1 refl (omega arith)) in
+            let doubling : IsDoubling set memory y n r q (r - y) y 1 at_3 = record {
+              in_range = in_3;
+              kept = h.kept;
+              divisor_is = h.divisor_is;
+              multiple_is = h.divisor_is;
+              power_is = refl;
+              left_is = minus_is (at (Scratch 0)) (at (Scratch 1)) r y h.rest_is h.divisor_is above;
+              count_is = h.count_is;
+              whole = whole;
+              left = omega arith;
+              times = omega arith;
+            } in
+            let wide : r < 2 ^ 128 * y = omega (arith, le_times (2 ^ 128) y positive) in
+            issued tt in_1
+            (ComesTo-else set _ _ _ at_1 run (goes_on (at (Scratch 0)) (at (Scratch 1)) r y k h.rest_is h.divisor_is above)
+            (issued tt in_2 (issued tt in_3
+            (doubling-comes 127 r q (r - y) y 1 at_3 (subtracting_acts (suc k) finish) doubling wide
+            (λ at' left q' counting half. subtracting-comes k left q' at' finish counting (room_halved k r y left room half) small follow)))))
+      ]
+
+  -- from the dividend and the divisor
+  pub counting-comes : (at : Place → ℤ) (finish : Acts) → range_bound set < 2 ^ 127 → AreInRange set at → memory_of at ≡ memory → at (Scratch 0) ≡ pos n → at (Scratch 1) ≡ pos y → FollowCounting finish → ComesTo set (counting_acts finish) at run
+  counting-comes at finish small in_range kept dividend_is divisor_is follow =
+      let at_1 = with_integer at (Scratch 5) (pos 0) in
+      let in_1 = AreInRange-with set at (Scratch 5) (pos 0) in_range (IsInRange-natural set (pos 0) 0 refl (omega arith)) in
+      let counting : IsCounting set memory y n n 0 at_1 = record {
+        in_range = in_1;
+        kept = kept;
+        rest_is = dividend_is;
+        divisor_is = divisor_is;
+        count_is = refl;
+        whole = omega arith;
+      } in
+      let wide : n < 2 ^ 127 * y = omega (arith, le_times (2 ^ 127) y positive) in
+      issued tt in_1 (subtracting-comes 127 n 0 at_1 finish counting wide small follow)

@@ -1,0 +1,7 @@
+pub mod ToldLemmas
+pub mod DivisionLoops
+pub mod DivisionSigns
+pub mod ToldInstructions
+pub mod ToldRuns
+pub mod PerformLemmas
+mod RowsOfActs
