@@ -28,10 +28,10 @@ doubling_acts zero rest = rest
 doubling_acts (suc k) rest =
     issue (Sub (Scratch 6) (Scratch 4) (Scratch 2)) (ask (Scratch 6) (λ d.
     if is_negative d || k == 0 then
-      issue (Copy (Scratch 0) (Scratch 4)) (issue (Add (Scratch 5) (Scratch 5) (Scratch 3)) rest)
+    issue (Copy (Scratch 0) (Scratch 4)) (issue (Add (Scratch 5) (Scratch 5) (Scratch 3)) rest)
     else
-      issue (Add (Scratch 2) (Scratch 2) (Scratch 2)) (issue (Add (Scratch 3) (Scratch 3) (Scratch 3))
-      (issue (Copy (Scratch 4) (Scratch 6)) (doubling_acts k rest)))))
+    issue (Add (Scratch 2) (Scratch 2) (Scratch 2)) (issue (Add (Scratch 3) (Scratch 3) (Scratch 3))
+    (issue (Copy (Scratch 4) (Scratch 6)) (doubling_acts k rest)))))
 
 -- while s1 goes into s0 it is taken off as often as doubling finds; n doings are left
 abbrev pub subtracting_acts : ℕ → Acts → Acts
@@ -40,7 +40,7 @@ subtracting_acts (suc n) finish =
     issue (Sub (Scratch 4) (Scratch 0) (Scratch 1)) (ask (Scratch 4) (λ d.
     if is_negative d || n == 0 then finish
     else issue (Copy (Scratch 2) (Scratch 1)) (issue (Put (Scratch 3) (pos 1))
-      (doubling_acts most_doings (subtracting_acts n finish)))))
+    (doubling_acts most_doings (subtracting_acts n finish)))))
 
 -- s5 counts how often s1 goes into s0, which keeps the remainder
 abbrev pub counting_acts : Acts → Acts
@@ -67,7 +67,7 @@ division_acts b c zero_divisor finish =
     ask (Reg b) (λ x. ask (Reg c) (λ y.
     if is_zero y then zero_divisor
     else sign_acts (is_negative y) b c (turning_acts (is_turned x y)
-      (counting_acts (finish (is_negative y) (is_turned x y))))))
+    (counting_acts (finish (is_negative y) (is_turned x y))))))
 
 -- the quotient
 abbrev pub quotient_acts : ℕ → Bool → Acts → Acts

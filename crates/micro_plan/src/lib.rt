@@ -6,5 +6,11 @@
 #![tactic(auto)]
 
 mod next;
+mod plan;
+mod plan_division;
+mod plan_laws;
+mod plan_scaling;
 
 pub use next::Next;
+pub use plan::Plan;
+pub use plan_laws::plans_end;

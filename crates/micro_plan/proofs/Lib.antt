@@ -1,0 +1,3 @@
+pub mod PlanEnds
+mod PlanRows
+pub mod PlanSteps
