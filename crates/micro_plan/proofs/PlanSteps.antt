@@ -12,7 +12,9 @@ use Rattle.micro_plan.specs.declared.next.Next.TheVariants.{Issue, Await, Done, 
 use Rattle.micro_plan.specs.declared.plan_division.Part.{Part}
 use Rattle.micro_plan.specs.declared.plan_division.Step.{Step}
 use Rattle.micro_plan.specs.declared.plan_division.Step.TheVariants.{ShowDividend}
+use Rattle.micro_plan.specs.declared.plan_division.Step.TheVariants as step
 use Rattle.micro_plan.specs.declared.plan_division.Question.{Question}
+use Rattle.micro_plan.specs.declared.plan_division.Question.TheVariants.{Divisor}
 use Rattle.micro_plan.specs.declared.plan_division.Stage.TheVariants.{Hears, Does}
 use Rattle.micro_plan.specs.declared.plan_division.Division.{Division}
 use Rattle.micro_plan.specs.ActTree.{Acts, issue, ask}
@@ -125,10 +127,17 @@ signs_told d x y negative turned zero_divisor rest some n t =
     ∙ ap (λ t. acts negative t) (sym t)
     ∙ first_sign negative d.b d.c (turning_acts turned (counting_acts (finish_by d.part d.a negative turned rest)))
 
-pub not_zero : (y : ℤ) → (y ≡ pos 0 → ⊥) → is_zero y ≡ false
-not_zero (pos zero) h = absurd (h refl)
-not_zero (pos (suc n)) h = refl
-not_zero (negsuc n) h = refl
+pub zero_proceeds : (d new : Division) (x y : ℤ) → is_zero y ≡ true → new ≡ at_step d step.Zero → Proceeds (question_left d (Divisor x) y) (question_most (Divisor x)) d Zero new
+zero_proceeds d new x y none new_is =
+    let acts : Acts → Acts = λ rest. sign_acts (is_negative y) d.b d.c (turning_acts (is_turned x y) (counting_acts (finish_by d.part d.a (is_negative y) (is_turned x y) rest))) in
+    let here : Proceeds (question_left d (Divisor x) y) (question_most (Divisor x)) d Zero (at_step d step.Zero) = record {
+      next = λ zero_divisor rest. (ap (λ b. cond b zero_divisor (acts rest)) none, refl);
+      waits = refl;
+      shorter = tt;
+      possible = λ have words channels. tt;
+      registers = λ have. record { a = have.a; b = have.b; c = have.c };
+    } in
+    subst (λ (n : Division). Proceeds (question_left d (Divisor x) y) (question_most (Divisor x)) d Zero n) (sym new_is) here
 
 -- the signs aren't among the places
 pub signs_proceed : (left : Plan) (most : ℕ) (d new : Division) (negative turned : Bool) (result : Next)

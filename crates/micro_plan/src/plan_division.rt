@@ -1,5 +1,6 @@
 ghost use Rattle.std.specs.Prelude.{◌≡◌, ◌==◌, ◌||◌, is_some};
 ghost use Rattle.machine_table.specs.Control.{is_negative, is_positive, is_zero};
+ghost use Rattle.channel_alu.specs.declared.operation.Place.TheVariants.{Reg, Scratch};
 ghost use Rattle.channel_alu.specs.declared.operation.MicroOp.TheVariants.{Put, Copy, Add, Sub, Neg};
 ghost use Rattle.micro_plan.specs.declared.next.Next.TheVariants.{Issue, Await};
 ghost use Rattle.micro_plan.specs.ActTree.{Acts};
@@ -183,10 +184,7 @@ impl Division {
             Step::SubtractCount => self.issue(sub(Place::Reg(self.a), S4, S5), Step::Done),
             Step::PutOne => self.issue(put(S4, 1), Step::SubtractOne),
             Step::SubtractOne => self.issue(sub(S0, S1, S4), Step::SignRemainder),
-            Step::SignRemainder => {
-                let op = self.signed(Place::Reg(self.a), S0);
-                self.issue(op, Step::Done)
-            }
+            Step::SignRemainder => self.issue(self.signed_remainder(), Step::Done),
             Step::Done => Next::Done,
             Step::Zero => Next::Zero,
         }
@@ -220,7 +218,7 @@ impl Division {
     fn hear_divisor(&mut self, dividend: i128, divisor: i128) -> Next
         ensures { Proceeds (question_left self.old (Divisor dividend) divisor) (question_most (Divisor dividend)) self.old result self.new }
     {
-        if divisor == 0 {
+        if is_zero(divisor) {
             self.stage = Stage::Does(Step::Zero);
             return Next::Zero;
         }
@@ -238,10 +236,7 @@ impl Division {
             (Part::Quotient, true) => self.issue(put(S4, -1), Step::SubtractCount),
             (Part::Quotient, false) => self.issue(copy(Place::Reg(self.a), S5), Step::Done),
             (Part::Remainder, true) => self.issue(sub(S1, S1, S0), Step::PutOne),
-            (Part::Remainder, false) => {
-                let op = self.signed(Place::Reg(self.a), S0);
-                self.issue(op, Step::Done)
-            }
+            (Part::Remainder, false) => self.issue(self.signed_remainder(), Step::Done),
         }
     }
 
@@ -261,6 +256,13 @@ impl Division {
     {
         self.stage = Stage::Hears(question);
         Next::Await(place)
+    }
+
+    /// R(a) := s0, with the sign turned where the divisor is negative.
+    fn signed_remainder(&self) -> MicroOp
+        ensures { result ≡ signed self.now.negative (Reg self.now.a) (Scratch 0) }
+    {
+        self.signed(Place::Reg(self.a), S0)
     }
 
     /// A copy, with the sign turned where the divisor is negative.
@@ -316,6 +318,12 @@ fn is_turned(dividend: i128, divisor: i128) -> bool
 {
     (is_positive(divisor) && is_negative(dividend))
         || (is_negative(divisor) && is_positive(dividend))
+}
+
+fn is_zero(x: i128) -> bool
+    ensures { result ≡ is_zero x }
+{
+    x == 0
 }
 
 fn is_negative(x: i128) -> bool
