@@ -8,18 +8,10 @@ use micro_plan::{Next, Plan};
 use moduli_sets::SetName;
 
 /// Plain integers, one at each place that a division uses.
+#[derive(Drop)]
 struct Integers {
     registers: [i128; 3],
     scratch: [i128; 8],
-}
-
-impl Drop for Integers {
-    fn drop(self) {
-        let Integers {
-            registers: _,
-            scratch: _,
-        } = self;
-    }
 }
 
 impl Integers {

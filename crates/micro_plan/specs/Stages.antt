@@ -99,6 +99,7 @@ question_left d (question.Divisor dividend) x zero_divisor rest = told x (told d
 question_left d (question.Rest n) x zero_divisor rest = told x (after (outer d n rest))
 question_left d (question.Difference n k) x zero_divisor rest = told x (after (inner d n k rest))
 
+-- nothing is said of a question to which nothing is told: it is as if 0 were
 abbrev pub stage_left : Division → Stage → Option ℤ → Plan
 stage_left d (Does step) told = step_left d step
 stage_left d (Hears question) (Some x) = question_left d question x
