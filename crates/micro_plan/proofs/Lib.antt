@@ -5,3 +5,6 @@ pub mod ToldInstructions
 pub mod ToldRuns
 pub mod PerformLemmas
 mod RowsOfActs
+pub mod PlanEnds
+mod PlanRows
+pub mod PlanSteps

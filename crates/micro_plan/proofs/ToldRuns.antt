@@ -6,7 +6,7 @@ use Rattle.std.proofs.lemmas.List.Elements.{All-get_or, All-from_recursion}
 use Rattle.moduli_sets.specs.Set.{ModuliSet, IsModuliSet, IsInRange}
 use Rattle.channel_alu.specs.declared.operation.Place.{Place}
 use Rattle.channel_alu.specs.declared.operation.Place.TheVariants.{Reg, Scratch, Word}
-use Rattle.channel_lane.specs.Meaning.{integers_after}
+use Rattle.channel_lane.specs.Meaning.{integers_after, integers_at_start}
 use Rattle.machine_table.specs.declared.instr.Instr.{Instr}
 use Rattle.machine_table.specs.declared.instr.Instr.TheVariants.{Halt}
 use Rattle.machine_table.specs.Control.{Control}
@@ -15,7 +15,7 @@ use Rattle.machine_table.specs.Integers.{Memory, IntegerRun, prints, stands, sto
 use Rattle.machine_table.specs.Operands.{Shape, IsSoundOperand, operands_of}
 use Rattle.micro_plan.specs.ActTree.{Acts, issue, ask, print, go_on, end_by, then_acts}
 use Rattle.micro_plan.specs.Acts.{acts_of, acts_of_run}
-use Rattle.micro_plan.specs.Told.{memory_of, integers_at_start, integers_by, AreInRange, StayTrue}
+use Rattle.micro_plan.specs.Told.{memory_of, integers_by, AreInRange, StayTrue}
 use Rattle.micro_plan.proofs.ToldLemmas.{ComesTo, issued, IsInRange-natural}
 use Rattle.micro_plan.proofs.ToldInstructions.{step-comes}
 

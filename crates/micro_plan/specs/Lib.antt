@@ -6,3 +6,4 @@ pub mod Division
 pub mod Plans
 pub mod Acts
 pub mod Told
+pub mod Stages

@@ -85,3 +85,8 @@ EndsWithin zero (issue op acts) = ⊥
 EndsWithin zero (ask place acts) = ⊥
 EndsWithin (suc n) (issue op acts) = EndsWithin n acts
 EndsWithin (suc n) (ask place acts) = (x : ℤ) → EndsWithin n (acts x)
+
+-- The most operations and Shows of a plan: those of a turned MOD whose loops are left at their last doings. Two Shows, two
+-- operations that give signs, two that turn, and one; the outer loop with 127 doings of 643 and one of two; four at the end.
+abbrev pub most_operations : ℕ
+most_operations = 81674

@@ -6,10 +6,10 @@ ghost use Rattle.machine_table.specs.Control.{Control, control_at_start};
 ghost use Rattle.machine_table.specs.Faults.{IsSound};
 ghost use Rattle.machine_table.specs.Integers.{IsFit, integer_run, run_from, step};
 ghost use Rattle.machine_table.specs.Operands.{IsSoundOperand, Shape, operands_of};
-ghost use Rattle.channel_lane.specs.Meaning.{CanPerform};
+ghost use Rattle.channel_lane.specs.Meaning.{CanPerform, integers_at_start};
 ghost use Rattle.micro_plan.specs.ActTree.{AllOperations};
 ghost use Rattle.micro_plan.specs.Acts.{acts_of, acts_of_run};
-ghost use Rattle.micro_plan.specs.Told.{AreInRange, StayTrue, integers_at_start, integers_by, memory_of};
+ghost use Rattle.micro_plan.specs.Told.{AreInRange, StayTrue, integers_by, memory_of};
 
 /// Where the integer machine keeps in range, the acts of an instruction that are told the integers held come to what the
 /// integer machine says of it; each operation on the way is exact, and leaves integers in range.

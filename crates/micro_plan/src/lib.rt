@@ -7,8 +7,14 @@
 
 mod laws;
 mod next;
+mod plan;
+mod plan_division;
+mod plan_laws;
+mod plan_scaling;
 
 pub use laws::{
     acts_can_be_performed, acts_follow_the_integer_machine, runs_follow_the_integer_machine,
 };
 pub use next::Next;
+pub use plan::Plan;
+pub use plan_laws::plans_end;

@@ -1,5 +1,5 @@
 use Rattle.machine_table.specs.Control.{control_at_start}
-use Rattle.micro_plan.specs.Told.{integers_at_start}
+use Rattle.channel_lane.specs.Meaning.{integers_at_start}
 use Rattle.micro_plan.proofs.ToldRuns.{run-comes, AreInRange-start}
 use Rattle.micro_plan.proofs.laws.runs_follow_the_integer_machine.Goals as goal
 

@@ -1,0 +1,7 @@
+//! Worked rows of the machine: tests of `micro_plan`.
+//!
+//! A crate with tests is proved twice, so those of the machine stand here, above its crates. Nothing comes in or goes out.
+#![tactic(auto)]
+
+#[cfg(test)]
+mod plans;
