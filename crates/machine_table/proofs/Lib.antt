@@ -1,4 +1,4 @@
 mod FaultLemmas
 mod RowsFaults
 mod RowsSteps
-mod SoundLemmas
+pub mod SoundLemmas
