@@ -1,5 +1,5 @@
 -- The rules of objects, and the first that a program breaks.
-use Rattle.std.specs.Prelude.{◌≡◌, ℕ, ◌+◌, ◌≤◌, ℤ, pos, neg_ℤ, Bool, true, false, not, ◌&&◌, ◌||◌, nat_lt, nat_eq, int_le, List, [], ◌∷◌, All, length, Option, Some, None, if◌then◌else◌}
+use Rattle.std.specs.Prelude.{ℕ, ◌+◌, ◌≤◌, ℤ, pos, neg_ℤ, Bool, false, not, ◌&&◌, ◌||◌, nat_lt, nat_eq, int_le, List, [], ◌∷◌, All, length, Option, Some, None, if◌then◌else◌}
 use Rattle.moduli_sets.specs.Set.{ModuliSet, IsInRange, range_bound}
 use Rattle.machine_table.specs.declared.fault.ObjectFault.{ObjectFault}
 use Rattle.machine_table.specs.declared.fault.ObjectFault.TheVariants.{TooMuchCode, TooMuchData, BadRegister, BadTarget, BadAddress, BadConstant, BadDatum}

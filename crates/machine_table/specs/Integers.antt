@@ -1,5 +1,5 @@
 -- The integer machine: what each instruction means where every word is one plain integer.
-use Rattle.std.specs.Prelude.{◌≡◌, ℕ, zero, suc, ◌+◌, ◌==◌, ℤ, pos, neg_ℤ, ◌+ℤ◌, ◌-ℤ◌, ◌*ℤ◌, int_lt, int_le, nat_lt, unsigned_abs, Bool, ◌&&◌, List, [], ◌∷◌, length, slice_index, slice_index_or, if◌then◌else◌}
+use Rattle.std.specs.Prelude.{ℕ, zero, suc, ◌+◌, ◌==◌, ℤ, pos, neg_ℤ, ◌+ℤ◌, ◌-ℤ◌, ◌*ℤ◌, int_lt, int_le, nat_lt, unsigned_abs, Bool, ◌&&◌, List, [], ◌∷◌, length, slice_index, slice_index_or, if◌then◌else◌}
 use Rattle.std.specs.Ordering.{int_eq}
 use Rattle.number_theory.specs.Residue.{quotient}
 use Rattle.number_theory.specs.Division.{floor_div, floor_mod}
@@ -74,11 +74,11 @@ step set (Ld a p) control memory = stands (next control) (with_register a (memor
 step set (St a p) control memory = stands (next control) (with_word p (memory.registers a) memory)
 step set (Ldx a b p q line) control memory =
     if is_index q (memory.registers b) then
-      stands (next control) (with_register a (memory.words (p + unsigned_abs (memory.registers b))) memory)
+    stands (next control) (with_register a (memory.words (p + unsigned_abs (memory.registers b))) memory)
     else stops (traps Index line)
 step set (Stx a b p q line) control memory =
     if is_index q (memory.registers b) then
-      stands (next control) (with_word (p + unsigned_abs (memory.registers b)) (memory.registers a) memory)
+    stands (next control) (with_word (p + unsigned_abs (memory.registers b)) (memory.registers a) memory)
     else stops (traps Index line)
 step set (Mov a b) control memory = stands (next control) (with_register a (memory.registers b) memory)
 step set (Add a b c) control memory = computes set a (memory.registers b +ℤ memory.registers c) control memory
@@ -104,7 +104,7 @@ step set (In a low high line) control memory = reads a low high line control.inp
 step set (Out a) control memory = prints (memory.registers a) (stands (next control) memory)
 step set (Call p line) control memory =
     if nat_lt (length control.places) most_places then
-      stands (with_places p ((control.counter + 1) ∷ control.places) control) memory
+    stands (with_places p ((control.counter + 1) ∷ control.places) control) memory
     else stops (traps Stack line)
 step set (Ret line) control memory = returns line control.places control memory
 step set (Trp k line) control memory = stops (traps (kind_numbered k) line)

@@ -4,5 +4,8 @@ pub use Rattle.moduli_sets.specs.Set
 pub use Rattle.moduli_sets.specs.Name
 pub mod Operands
 pub mod Faults
+pub mod Laws
+pub mod Rules
+pub mod Objects
 pub mod Control
 pub mod Integers

@@ -7,11 +7,20 @@ pub enum Instr {
     /// HALT: end
     Halt,
     /// LDI: R(a) := value
-    Ldi { a: u8, value: i128 },
+    Ldi {
+        a: u8,
+        value: i128,
+    },
     /// LD: R(a) := W(address)
-    Ld { a: u8, address: u32 },
+    Ld {
+        a: u8,
+        address: u32,
+    },
     /// ST: W(address) := R(a)
-    St { a: u8, address: u32 },
+    St {
+        a: u8,
+        address: u32,
+    },
     /// LDX: R(a) := W(address + R(b)); trap index unless 0 <= R(b) < length
     Ldx {
         a: u8,
@@ -29,29 +38,75 @@ pub enum Instr {
         line: u32,
     },
     /// MOV: R(a) := R(b)
-    Mov { a: u8, b: u8 },
+    Mov {
+        a: u8,
+        b: u8,
+    },
     /// ADD: R(a) := R(b) + R(c)
-    Add { a: u8, b: u8, c: u8 },
+    Add {
+        a: u8,
+        b: u8,
+        c: u8,
+    },
     /// SUB: R(a) := R(b) - R(c)
-    Sub { a: u8, b: u8, c: u8 },
+    Sub {
+        a: u8,
+        b: u8,
+        c: u8,
+    },
     /// MUL: R(a) := R(b) * R(c)
-    Mul { a: u8, b: u8, c: u8 },
+    Mul {
+        a: u8,
+        b: u8,
+        c: u8,
+    },
     /// NEG: R(a) := -R(b)
-    Neg { a: u8, b: u8 },
+    Neg {
+        a: u8,
+        b: u8,
+    },
     /// MAC: R(a) := R(b) * R(c) + R(a)
-    Mac { a: u8, b: u8, c: u8 },
+    Mac {
+        a: u8,
+        b: u8,
+        c: u8,
+    },
     /// DIV: R(a) := floor(R(b) / R(c)); trap zero where R(c) = 0
-    Div { a: u8, b: u8, c: u8, line: u32 },
+    Div {
+        a: u8,
+        b: u8,
+        c: u8,
+        line: u32,
+    },
     /// MOD: R(a) := R(b) - R(c) * floor(R(b) / R(c)); trap zero where R(c) = 0
-    Mod { a: u8, b: u8, c: u8, line: u32 },
+    Mod {
+        a: u8,
+        b: u8,
+        c: u8,
+        line: u32,
+    },
     /// SCL: R(a) := floor(R(b) / m), where m is the modulus of the information channel
-    Scl { a: u8, b: u8, channel: u32 },
+    Scl {
+        a: u8,
+        b: u8,
+        channel: u32,
+    },
     /// JMP: go to target
-    Jmp { target: u32 },
+    Jmp {
+        target: u32,
+    },
     /// BLT: go to target where R(a) < R(b)
-    Blt { a: u8, b: u8, target: u32 },
+    Blt {
+        a: u8,
+        b: u8,
+        target: u32,
+    },
     /// BEQ: go to target where R(a) = R(b)
-    Beq { a: u8, b: u8, target: u32 },
+    Beq {
+        a: u8,
+        b: u8,
+        target: u32,
+    },
     /// CHK: trap range unless low <= R(a) <= high
     Chk {
         a: u8,
@@ -67,11 +122,21 @@ pub enum Instr {
         line: u32,
     },
     /// OUT: print R(a)
-    Out { a: u8 },
+    Out {
+        a: u8,
+    },
     /// CALL: hold the next place, go to target; trap stack where 64 places are held
-    Call { target: u32, line: u32 },
+    Call {
+        target: u32,
+        line: u32,
+    },
     /// RET: go to the place held last and drop it; trap stack where none is held
-    Ret { line: u32 },
+    Ret {
+        line: u32,
+    },
     /// TRP: trap of a kind: 0 zero, 1 range, 2 index, 3 input-end, 4 input-range, 5 turns, 6 stack
-    Trp { kind: u32, line: u32 },
+    Trp {
+        kind: u32,
+        line: u32,
+    },
 }

@@ -7,6 +7,11 @@
 
 mod fault;
 mod instr;
+mod laws;
+mod object;
+mod rules;
 
 pub use fault::ObjectFault;
 pub use instr::Instr;
+pub use laws::sound_programs_have_no_fault;
+pub use object::Object;

@@ -1,0 +1,4 @@
+mod FaultLemmas
+mod RowsFaults
+mod RowsSteps
+pub mod SoundLemmas
