@@ -3,7 +3,6 @@ use Rattle.std.proofs.Common.{◌≡◌, ℕ, ◌+◌, ◌<◌, ◌≤◌, List,
 use Rattle.std.specs.Prelude.{sum_by, ⊤}
 use Rattle.std.proofs.lemmas.List.{append-nil, drop_more, drop_all}
 use Rattle.std.proofs.lemmas.List.Sums.{sum_by-drop_more}
-use Rattle.source_tree.specs.Numbers.{names_declared}
 use Rattle.source_tree.specs.Scope.{Scope, names_in, with_declared}
 use Rattle.source_tree.specs.declared.declaration.Declaration.{Declaration}
 use Rattle.source_tree.specs.declared.declaration.Declaration.TheVariants.{Var, Array, Proc}
@@ -15,11 +14,6 @@ use Rattle.name_check.specs.Ties.{all_ties, declaration_ties, statement_ties, ti
 use Rattle.name_check.specs.Visible.{Visible, scope_of}
 use Rattle.name_check.proofs.WalkLemmas.{stops}
 
-names_same : (d : Declaration) → names_declared d ≡ names_in d
-names_same (Var name range line) = refl
-names_same (Array name len range line) = refl
-names_same (Proc name params locals body line) = refl
-
 few_procedures : (d : Declaration) → procedures_in d ≤ names_in d
 few_procedures (Var name range line) = omega arith
 few_procedures (Array name len range line) = omega arith
@@ -29,7 +23,7 @@ few_procedures (Proc name params locals body line) = omega arith
 pub record HasPassed (declarations : List Declaration) (statements : List Statement) (i number procedures : ℕ) (scope : Scope) (before after : List ℕ) : Type 0 where
   pub faults : faults_of_rest 0 0 declarations statements [] ≡ faults_of_rest number procedures (drop i declarations) statements scope
   pub ties : before ++ ties_of_rest 0 declarations statements [] ≡ after ++ ties_of_rest number (drop i declarations) statements scope
-  pub names : sum_by names_declared declarations ≡ number + sum_by names_declared (drop i declarations)
+  pub names : sum_by names_in declarations ≡ number + sum_by names_in (drop i declarations)
   pub few : procedures ≤ number
 
 pub passed_first : (declarations : List Declaration) (statements : List Statement) (before : List ℕ) → HasPassed declarations statements 0 0 0 [] before before
@@ -40,12 +34,12 @@ module _ (declarations : List Declaration) (statements : List Statement) (i numb
   left : drop i declarations ≡ d ∷ drop (i + 1) declarations
   left = drop_more declarations i d within ∙ ap (λ e. e ∷ drop (i + 1) declarations) (sym is)
 
-  names_left : sum_by names_declared declarations ≡ number + (names_in d + sum_by names_declared (drop (i + 1) declarations))
+  names_left : sum_by names_in declarations ≡ number + (names_in d + sum_by names_in (drop (i + 1) declarations))
   names_left =
-      passed.names ∙ ap (λ n. number + n) (sum_by-drop_more names_declared declarations i d within)
-      ∙ ap (λ n. number + (n + sum_by names_declared (drop (i + 1) declarations))) (ap names_declared (sym is) ∙ names_same d)
+      passed.names ∙ ap (λ n. number + n) (sum_by-drop_more names_in declarations i d within)
+      ∙ ap (λ n. number + (n + sum_by names_in (drop (i + 1) declarations))) (ap names_in (sym is))
 
-  pub names_fit : sum_by names_declared declarations < 4294967295 → number + names_in d < 4294967295
+  pub names_fit : sum_by names_in declarations < 4294967295 → number + names_in d < 4294967295
   names_fit few = let left = names_left in omega arith
 
   pub procedures_fit : procedures + procedures_in d ≤ number + names_in d

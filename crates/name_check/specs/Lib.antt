@@ -1,5 +1,4 @@
 pub use Rattle.source_tree.specs.Numbers
-pub mod Checked
 pub mod Names
 pub mod Reported
 pub mod Ties

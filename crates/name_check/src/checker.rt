@@ -1,6 +1,7 @@
 ghost use Rattle.std.specs.Prelude.{◌≡◌, ◌<◌, ◌≤ℤ◌, IfOk, [], pos, sum_by};
 ghost use Rattle.std.specs.List.{All};
-ghost use Rattle.source_tree.specs.Numbers.{names_declared, program_names, program_numbers};
+ghost use Rattle.source_tree.specs.Numbers.{program_names, program_numbers};
+ghost use Rattle.source_tree.specs.Scope.{names_in};
 ghost use Rattle.name_check.specs.Names.{faults_of_rest, name_faults};
 ghost use Rattle.name_check.specs.Reported.{IsFirst, Walks};
 ghost use Rattle.name_check.specs.Ties.{ties_of, ties_of_rest};
@@ -40,7 +41,7 @@ fn walk(
     statements: &Items<Statement>,
     ties: &mut Items<u32>,
 ) -> Result<(), NameFault>
-    requires { sum_by names_declared declarations.now < 4294967295 }
+    requires { sum_by names_in declarations.now < 4294967295 }
     ensures { Walks (faults_of_rest 0 0 declarations.now statements.now []) (ties_of_rest 0 declarations.now statements.now []) ties.old result ties.new }
 {
     let mut symbols = Symbols::new(alloc);
