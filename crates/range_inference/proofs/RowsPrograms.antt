@@ -1,5 +1,5 @@
 -- Worked rows of sources: the intervals of their nodes, and the lines of what is too wide.
-use Rattle.std.specs.Prelude.{◌≡◌, refl, ℕ, ℤ, pos, neg_ℤ, List, [], ◌∷◌}
+use Rattle.std.proofs.Common.{◌≡◌, refl, ap, ℕ, ℤ, pos, neg_ℤ, List, [], ◌∷◌}
 use Rattle.moduli_sets.specs.declared.set_name.SetName.TheVariants.{Pocket, Desk}
 use Rattle.source_tree.specs.declared.name.Name.{Name as SourceName}
 use Rattle.source_tree.specs.declared.name.Range.{Range}
@@ -11,7 +11,7 @@ use Rattle.source_tree.specs.declared.expression.Expr.{Number, Name, Element, Bi
 use Rattle.source_tree.specs.declared.statement.Place.TheVariants.{Element as AtElement}
 use Rattle.source_tree.specs.declared.statement.Statement.{Assign, Print, While}
 use Rattle.range_inference.specs.Bound.{bound_of}
-use Rattle.range_inference.specs.Demands.{too_wide, intervals_in}
+use Rattle.range_inference.specs.Demands.{node, limit, demands_of, wide_lines, too_wide, intervals_in}
 use Rattle.range_inference.specs.Interval.{from_to}
 use Rattle.range_inference.proofs.Equations.{judged-Number, judged-Name, judged-Element, judged-Binary, demands-Assign, demands-Print, demands-While}
 
@@ -24,15 +24,21 @@ a line = record { bytes = 97 ∷ []; line = line }
 abbrev range : ℤ → ℤ → Range
 range low high = record { low = low; high = high }
 
--- print 49 + 49;
+-- print
+-- 49 +
+-- 49;
 abbrev sum_of_two : Program
-sum_of_two = record { declarations = []; statements = Print (Binary (Number (pos 49) 1) Add (Number (pos 49) 1) 2) 1 ∷ [] }
+sum_of_two = record { declarations = []; statements = Print (Binary (Number (pos 49) 2) Add (Number (pos 49) 3) 2) 1 ∷ [] }
+
+sum_demands : demands_of sum_of_two
+    ≡ node (from_to (pos 49) (pos 49)) 2 ∷ (node (from_to (pos 49) (pos 49)) 3 ∷ (node (from_to (pos 98) (pos 98)) 2 ∷ []))
+sum_demands = rw demands-Print (rw judged-Binary (rw (judged-Number (pos 49) 2) (rw (judged-Number (pos 49) 3) refl)))
 
 pub sum_on_pocket : too_wide (bound_of Pocket) sum_of_two ≡ 2 ∷ []
-sum_on_pocket = rw demands-Print (rw judged-Binary (rw judged-Number (rw judged-Number refl)))
+sum_on_pocket = ap (wide_lines (bound_of Pocket)) sum_demands
 
 pub sum_on_desk : too_wide (bound_of Desk) sum_of_two ≡ []
-sum_on_desk = rw demands-Print (rw judged-Binary (rw judged-Number (rw judged-Number refl)))
+sum_on_desk = ap (wide_lines (bound_of Desk)) sum_demands
 
 -- var x: 0..9;
 -- print x * x - 20;
@@ -92,7 +98,11 @@ limited = record {
   statements = While (record { left = Number (pos 0) 1; comparison = Less; right = Number (pos 98) 2; line = 1 }) (pos 99) (Print (Number (pos 100) 3) 3 ∷ []) 1 ∷ [];
 }
 
+limited_demands : demands_of limited
+    ≡ node (from_to (pos 0) (pos 0)) 1 ∷ (node (from_to (pos 98) (pos 98)) 2 ∷ (limit (pos 99) 1 ∷ (node (from_to (pos 100) (pos 100)) 3 ∷ [])))
+limited_demands =
+    rw demands-While (rw (judged-Number (pos 0) 1) (rw (judged-Number (pos 98) 2) (rw demands-Print (rw (judged-Number (pos 100) 3) refl))))
+
 -- condition, limit, list
 pub limit_between : too_wide (bound_of Pocket) limited ≡ 2 ∷ (1 ∷ (3 ∷ []))
-limit_between =
-    rw demands-While (rw demands-Print (rw (judged-Number (pos 0) 1) (rw (judged-Number (pos 98) 2) (rw (judged-Number (pos 100) 3) refl))))
+limit_between = ap (wide_lines (bound_of Pocket)) limited_demands
