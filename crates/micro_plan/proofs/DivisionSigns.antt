@@ -60,6 +60,9 @@ IsInRange-signed : (set : ModuliSet) (negative : Bool) (x : ℤ) → IsInRange s
 IsInRange-signed set true x h = IsInRange-neg set x h
 IsInRange-signed set false x h = h
 
+minus_one : (set : ModuliSet) → 1 ≤ range_bound set → IsInRange set (negsuc 0)
+minus_one set some = IsInRange-neg set (pos 1) (IsInRange-natural set (pos 1) 1 refl some)
+
 back_from : (n : ℕ) → negsuc 0 -ℤ negsuc n ≡ pos n
 back_from n = omega (arith, ints)
 
@@ -117,8 +120,8 @@ remainder_is x y r q h below whole =
     remainder_by x y r q h below whole ∙ ap (λ z. x -ℤ (y *ℤ z)) (quotient_is x y r q below whole)
 
 -- ---- from the signs to the counting
--- s0 and s1 are these, and the registers and words are what they were
-pub record IsSet (set : ModuliSet) (memory : Memory) (x y : ℤ) (at : Place → ℤ) : Type 0 where
+-- s0 is x and s1 is y, and the registers and words are what they were
+pub record HoldsOperands (set : ModuliSet) (memory : Memory) (x y : ℤ) (at : Place → ℤ) : Type 0 where
   pub in_range : AreInRange set at
   pub kept : memory_of at ≡ memory
   pub dividend_is : at (Scratch 0) ≡ x
@@ -126,7 +129,7 @@ pub record IsSet (set : ModuliSet) (memory : Memory) (x y : ℤ) (at : Place →
 
 module _ (set : ModuliSet) (run : IntegerRun) (some : 1 ≤ range_bound set) where
   signs-come : (negative : Bool) (b c : ℕ) (at : Place → ℤ) (rest : Acts) → AreInRange set at
-      → ((at' : Place → ℤ) → IsSet set (memory_of at) (signed negative (at (Reg b))) (signed negative (at (Reg c))) at' → ComesTo set rest at' run)
+      → ((at' : Place → ℤ) → HoldsOperands set (memory_of at) (signed negative (at (Reg b))) (signed negative (at (Reg c))) at' → ComesTo set rest at' run)
       → ComesTo set (sign_acts negative b c rest) at run
   signs-come true b c at rest in_range follow =
       let x = neg_ℤ (at (Reg b)) in
@@ -143,8 +146,8 @@ module _ (set : ModuliSet) (run : IntegerRun) (some : 1 ≤ range_bound set) whe
       let in_2 = AreInRange-with set at_1 (Scratch 1) (at (Reg c)) in_1 (in_range (Reg c)) in
       issued tt in_1 (issued tt in_2 (follow at_2 (record { in_range = in_2; kept = refl; dividend_is = refl; divisor_is = refl })))
 
-  turning-comes : (z y : ℤ) (memory : Memory) (at : Place → ℤ) (rest : Acts) → IsInRange set z → IsSet set memory z y at
-      → ((at' : Place → ℤ) → IsSet set memory (pos (dividend z)) y at' → ComesTo set rest at' run)
+  turning-comes : (z y : ℤ) (memory : Memory) (at : Place → ℤ) (rest : Acts) → IsInRange set z → HoldsOperands set memory z y at
+      → ((at' : Place → ℤ) → HoldsOperands set memory (pos (dividend z)) y at' → ComesTo set rest at' run)
       → ComesTo set (turning_acts (is_negative z) rest) at run
   turning-comes (pos n) y memory at rest in_z h follow = follow at h
   turning-comes (negsuc n) y memory at rest in_z h follow =
@@ -152,7 +155,7 @@ module _ (set : ModuliSet) (run : IntegerRun) (some : 1 ≤ range_bound set) whe
       let x_is = same_difference (negsuc 0) (negsuc 0) (at (Scratch 0)) (negsuc n) refl h.dividend_is ∙ back_from n in
       let at_1 = with_integer at (Scratch 4) (negsuc 0) in
       let at_2 = with_integer at_1 (Scratch 0) x in
-      let in_1 = AreInRange-with set at (Scratch 4) (negsuc 0) h.in_range (IsInRange-neg set (pos 1) (IsInRange-natural set (pos 1) 1 refl some)) in
+      let in_1 = AreInRange-with set at (Scratch 4) (negsuc 0) h.in_range (minus_one set some) in
       let in_2 = AreInRange-with set at_1 (Scratch 0) x in_1 (IsInRange-natural set x n x_is (dividend_fits set (negsuc n) in_z)) in
       issued tt in_1 (issued tt in_2 (follow at_2 (record { in_range = in_2; kept = h.kept; dividend_is = x_is; divisor_is = h.divisor_is })))
 
@@ -190,7 +193,7 @@ module _ (set : ModuliSet) (a : ℕ) (control : Control) (memory : Memory) (some
       last set a control at memory (at (Scratch 5)) v tt h.in_range h.kept (h.count_is ∙ e) in_v
   quotient-comes (negsuc n) v y r q at h e in_v =
       let at_1 = with_integer at (Scratch 4) (negsuc 0) in
-      let in_1 = AreInRange-with set at (Scratch 4) (negsuc 0) h.in_range (IsInRange-neg set (pos 1) (IsInRange-natural set (pos 1) 1 refl some)) in
+      let in_1 = AreInRange-with set at (Scratch 4) (negsuc 0) h.in_range (minus_one set some) in
       issued tt in_1
       (last set a control at_1 memory (negsuc 0 -ℤ at (Scratch 5)) v tt in_1 h.kept (same_difference (negsuc 0) (negsuc 0) (at (Scratch 5)) (pos q) refl h.count_is ∙ e) in_v)
 
