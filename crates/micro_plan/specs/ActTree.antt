@@ -1,5 +1,5 @@
 -- What is asked of the channels, as a tree by the integers that are told.
-use Rattle.std.specs.Prelude.{ℕ, zero, suc, ℤ, List}
+use Rattle.std.specs.Prelude.{ℤ}
 use Rattle.channel_alu.specs.declared.operation.Place.{Place}
 use Rattle.channel_alu.specs.declared.operation.MicroOp.{MicroOp}
 use Rattle.channel_alu.specs.declared.operation.MicroOp.TheVariants.{Show}

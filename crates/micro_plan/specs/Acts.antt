@@ -1,5 +1,5 @@
 -- The acts of each instruction, in the order of the instructions' numbers, and those of a run.
-use Rattle.std.specs.Prelude.{ℕ, zero, suc, ◌+◌, ℤ, pos, int_lt, nat_lt, unsigned_abs, List, [], ◌∷◌, length, if◌then◌else◌}
+use Rattle.std.specs.Prelude.{ℕ, zero, suc, ◌+◌, ℤ, int_lt, nat_lt, unsigned_abs, List, [], ◌∷◌, length, if◌then◌else◌}
 use Rattle.std.specs.Ordering.{int_eq}
 use Rattle.moduli_sets.specs.Set.{ModuliSet}
 use Rattle.moduli_sets.specs.declared.kind.Kind.TheVariants.{Zero, Index, Range, InputEnd, InputRange, Stack}

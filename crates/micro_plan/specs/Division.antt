@@ -5,8 +5,6 @@ use Rattle.number_theory.specs.Residue.{residue, quotient}
 use Rattle.moduli_sets.specs.Set.{ModuliSet}
 use Rattle.channel_alu.specs.declared.operation.Place.TheVariants.{Reg, Scratch}
 use Rattle.channel_alu.specs.declared.operation.MicroOp.TheVariants.{Put, Copy, Add, Sub, Neg, Unscale}
-use Rattle.machine_table.specs.declared.instr.Instr.{Instr}
-use Rattle.machine_table.specs.declared.instr.Instr.TheVariants as instr
 use Rattle.machine_table.specs.Control.{is_negative, is_positive, is_zero}
 use Rattle.micro_plan.specs.ActTree.{Acts, issue, ask}
 

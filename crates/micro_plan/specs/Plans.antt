@@ -1,7 +1,6 @@
 -- A plan, one operation after another.
 use Rattle.std.specs.Prelude.{◌≡◌, ℕ, zero, suc, ◌<◌, ℤ, length, Option, Some, None}
 use Rattle.moduli_sets.specs.Set.{ModuliSet}
-use Rattle.channel_alu.specs.declared.operation.MicroOp.{MicroOp}
 use Rattle.machine_table.specs.declared.instr.Instr.{Instr}
 use Rattle.machine_table.specs.declared.instr.Instr.TheVariants.{Halt, Ldi, Ld, St, Ldx, Stx, Mov, Add, Sub, Mul, Neg, Mac, Div, Mod, Scl, Jmp, Blt, Beq, Chk, In, Out, Call, Ret, Trp}
 use Rattle.micro_plan.specs.declared.next.Next.{Next}
