@@ -1,15 +1,13 @@
 -- Plans end, whatever is told.
-use Rattle.std.proofs.Common.{◌≡◌, ℕ, zero, suc, ◌+◌, ◌*◌, ◌≤◌, ◌==◌, ◌||◌, Bool, true, false, cond, refl, sym, subst, arith, ℤ, pos}
+use Rattle.std.proofs.Common.{ℕ, zero, suc, ◌+◌, ◌*◌, ◌≤◌, ◌==◌, ◌||◌, Bool, true, false, cond, sym, subst, arith, ℤ}
 use Rattle.moduli_sets.specs.Set.{ModuliSet}
 use Rattle.channel_alu.specs.declared.operation.Place.{Place}
-use Rattle.channel_alu.specs.declared.operation.Place.TheVariants.{Reg, Scratch}
 use Rattle.channel_alu.specs.declared.operation.MicroOp.{MicroOp}
-use Rattle.channel_alu.specs.declared.operation.MicroOp.TheVariants.{Put, Copy, Add, Sub, Neg}
 use Rattle.machine_table.specs.declared.instr.Instr.{Instr}
 use Rattle.machine_table.specs.declared.instr.Instr.TheVariants as instr
 use Rattle.machine_table.specs.Control.{is_negative, is_zero}
 use Rattle.micro_plan.specs.ActTree.{Acts, issue, ask, print, go_on, end_by}
-use Rattle.micro_plan.specs.Division.{most_doings, doubling_acts, subtracting_acts, counting_acts, sign_acts, turning_acts, is_turned, division_acts, quotient_acts, remainder_acts, signed_acts, scaling_acts}
+use Rattle.micro_plan.specs.Division.{doubling_acts, subtracting_acts, counting_acts, sign_acts, turning_acts, is_turned, division_acts, quotient_acts, remainder_acts, signed_acts, scaling_acts}
 use Rattle.micro_plan.specs.Plans.{EndsWithin, most_operations, plan_of}
 use Rattle.micro_plan.proofs.PlanSteps.{or_true}
 

@@ -1,6 +1,5 @@
 -- The operations of plans, by hand from their rules, where these integers are told.
-use Rattle.std.specs.Prelude.{◌≡◌, refl, ℕ, ℤ, pos, negsuc, List, [], ◌∷◌}
-use Rattle.moduli_sets.specs.Set.{ModuliSet}
+use Rattle.std.specs.Prelude.{◌≡◌, refl, ℤ, pos, negsuc, List, [], ◌∷◌}
 use Rattle.moduli_sets.specs.Name.{set_of_name}
 use Rattle.moduli_sets.specs.declared.set_name.SetName.TheVariants.{Pocket}
 use Rattle.channel_alu.specs.declared.operation.Place.TheVariants.{Reg, Scratch}
@@ -8,7 +7,7 @@ use Rattle.channel_alu.specs.declared.operation.MicroOp.{MicroOp}
 use Rattle.channel_alu.specs.declared.operation.MicroOp.TheVariants.{Put, Copy, Add, Sub, Neg, Unscale, Show}
 use Rattle.machine_table.specs.declared.instr.Instr.{Instr}
 use Rattle.machine_table.specs.declared.instr.Instr.TheVariants as instr
-use Rattle.machine_table.specs.Control.{control_at_start, halts, traps}
+use Rattle.machine_table.specs.Control.{halts, traps}
 use Rattle.moduli_sets.specs.declared.kind.Kind.TheVariants.{Zero}
 use Rattle.micro_plan.specs.ActTree.{Acts, issue, ask, print, go_on, end_by}
 use Rattle.micro_plan.specs.Plans.{plan_of}

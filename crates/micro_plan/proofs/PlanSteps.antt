@@ -1,14 +1,15 @@
 -- A step of a plan, by the operation that it issues or the place that it shows.
-use Rattle.std.proofs.Common.{◌≡◌, ◌≢◌, ℕ, zero, suc, ◌-◌, ◌<◌, ◌≤◌, ◌==◌, ◌||◌, Bool, true, false, cond, refl, sym, ap, ◌∙◌, subst, arith, rules, tests, ℤ, pos, negsuc, Option, None}
+use Rattle.std.proofs.Common.{◌≡◌, ◌≢◌, ℕ, suc, ◌-◌, ◌<◌, ◌≤◌, ◌==◌, ◌||◌, Bool, true, false, cond, refl, sym, ap, ◌∙◌, subst, arith, rules, tests, ℤ, pos, Option, None}
 use Rattle.std.proofs.lemmas.Bool.{false≢true}
 use Rattle.channel_alu.specs.declared.operation.Place.{Place}
 use Rattle.channel_alu.specs.declared.operation.Place.TheVariants.{Reg, Scratch}
 use Rattle.channel_alu.specs.declared.operation.MicroOp.{MicroOp}
-use Rattle.channel_alu.specs.declared.operation.MicroOp.TheVariants.{Put, Copy, Add, Sub, Neg}
+use Rattle.channel_alu.specs.declared.operation.MicroOp.TheVariants.{Put, Copy}
 use Rattle.channel_lane.specs.Meaning.{HasPlace}
 use Rattle.machine_table.specs.Control.{is_negative, is_zero}
 use Rattle.micro_plan.specs.declared.next.Next.{Next}
 use Rattle.micro_plan.specs.declared.next.Next.TheVariants.{Issue, Await, Done, Zero}
+use Rattle.micro_plan.specs.declared.plan.Course.TheVariants as course
 use Rattle.micro_plan.specs.declared.plan_division.Part.{Part}
 use Rattle.micro_plan.specs.declared.plan_division.Step.{Step}
 use Rattle.micro_plan.specs.declared.plan_division.Step.TheVariants.{ShowDividend}
@@ -20,7 +21,7 @@ use Rattle.micro_plan.specs.declared.plan_division.Division.{Division}
 use Rattle.micro_plan.specs.ActTree.{Acts, issue, ask}
 use Rattle.micro_plan.specs.Division.{Plan, most_doings, doubling_acts, subtracting_acts, counting_acts, sign_acts, turning_acts, is_turned, signed_acts, division_acts}
 use Rattle.micro_plan.specs.Plans.{IsNext}
-use Rattle.micro_plan.specs.Stages.{after, told, signed, finish_by, finish, step_left, question_left, step_most, question_most, CanBeDone, HasRegisters, GoesDown, Proceeds, division_left, stage_left, stage_most, whole_division}
+use Rattle.micro_plan.specs.Stages.{after, told, signed, finish_by, step_left, question_left, step_most, question_most, CanBeDone, HasRegisters, GoesDown, Proceeds, division_left, stage_left, stage_most, whole_division}
 
 -- with a step next
 abbrev pub at_step : Division → Step → Division
@@ -33,35 +34,35 @@ pub issue_proceeds : (left : Plan) (most : ℕ) (d new : Division) (op given : M
     → given ≡ op → result ≡ Issue given → new ≡ at_step d step
     → ((zero_divisor rest : Acts) → left zero_divisor rest ≡ issue op (step_left (at_step d step) step zero_divisor rest))
     → step_most step < most
-    → (HasRegisters d → (words channels : ℕ) → CanBeDone words channels (Issue op))
-    → Proceeds left most d result new
+    → ((words channels : ℕ) → HasRegisters d → CanBeDone words channels (Issue op))
+    → Proceeds left most (course.Division d) result (course.Division new)
 issue_proceeds left most d new op given step result op_is result_is new_is same less can =
-    let here : Proceeds left most d (Issue op) (at_step d step) = record {
+    let here : Proceeds left most (course.Division d) (Issue op) (course.Division (at_step d step)) = record {
       next = same;
       waits = refl;
       shorter = less;
       possible = can;
-      registers = λ have. record { a = have.a; b = have.b; c = have.c };
+      places = λ channels have. record { a = have.a; b = have.b; c = have.c };
     } in
-    subst (λ (r : Next). Proceeds left most d r new) (sym (result_is ∙ ap Issue op_is))
-    (subst (λ (n : Division). Proceeds left most d (Issue op) n) (sym new_is) here)
+    subst (λ (r : Next). Proceeds left most (course.Division d) r (course.Division new)) (sym (result_is ∙ ap Issue op_is))
+    (subst (λ (n : Division). Proceeds left most (course.Division d) (Issue op) (course.Division n)) (sym new_is) here)
 
 pub show_proceeds : (left : Plan) (most : ℕ) (d new : Division) (place : Place) (question : Question) (result : Next)
     → result ≡ Await place → new ≡ at_question d question
     → ((zero_divisor rest : Acts) → left zero_divisor rest ≡ ask place (λ x. question_left (at_question d question) question x zero_divisor rest))
     → question_most question < most
-    → (HasRegisters d → (words : ℕ) → HasPlace words place)
-    → Proceeds left most d result new
+    → ((words : ℕ) → HasRegisters d → HasPlace words place)
+    → Proceeds left most (course.Division d) result (course.Division new)
 show_proceeds left most d new place question result result_is new_is same less can =
-    let here : Proceeds left most d (Await place) (at_question d question) = record {
+    let here : Proceeds left most (course.Division d) (Await place) (course.Division (at_question d question)) = record {
       next = same;
       waits = refl;
       shorter = less;
-      possible = λ have words channels. can have words;
-      registers = λ have. record { a = have.a; b = have.b; c = have.c };
+      possible = λ words channels have. can words have;
+      places = λ channels have. record { a = have.a; b = have.b; c = have.c };
     } in
-    subst (λ (r : Next). Proceeds left most d r new) (sym result_is)
-    (subst (λ (n : Division). Proceeds left most d (Await place) n) (sym new_is) here)
+    subst (λ (r : Next). Proceeds left most (course.Division d) r (course.Division new)) (sym result_is)
+    (subst (λ (n : Division). Proceeds left most (course.Division d) (Await place) (course.Division n)) (sym new_is) here)
 
 -- ---- signs
 pub first_sign : (negative : Bool) (b c : ℕ) (acts : Acts) → sign_acts negative b c acts ≡ issue (signed negative (Scratch 0) (Reg b)) (after (sign_acts negative b c acts))
@@ -127,27 +128,27 @@ signs_told d x y negative turned zero_divisor rest some n t =
     ∙ ap (λ t. acts negative t) (sym t)
     ∙ first_sign negative d.b d.c (turning_acts turned (counting_acts (finish_by d.part d.a negative turned rest)))
 
-pub zero_proceeds : (d new : Division) (x y : ℤ) → is_zero y ≡ true → new ≡ at_step d step.Zero → Proceeds (question_left d (Divisor x) y) (question_most (Divisor x)) d Zero new
+pub zero_proceeds : (d new : Division) (x y : ℤ) → is_zero y ≡ true → new ≡ at_step d step.Zero → Proceeds (question_left d (Divisor x) y) (question_most (Divisor x)) (course.Division d) Zero (course.Division new)
 zero_proceeds d new x y none new_is =
     let acts : Acts → Acts = λ rest. sign_acts (is_negative y) d.b d.c (turning_acts (is_turned x y) (counting_acts (finish_by d.part d.a (is_negative y) (is_turned x y) rest))) in
-    let here : Proceeds (question_left d (Divisor x) y) (question_most (Divisor x)) d Zero (at_step d step.Zero) = record {
+    let here : Proceeds (question_left d (Divisor x) y) (question_most (Divisor x)) (course.Division d) Zero (course.Division (at_step d step.Zero)) = record {
       next = λ zero_divisor rest. (ap (λ b. cond b zero_divisor (acts rest)) none, refl);
       waits = refl;
       shorter = tt;
-      possible = λ have words channels. tt;
-      registers = λ have. record { a = have.a; b = have.b; c = have.c };
+      possible = λ words channels have. tt;
+      places = λ channels have. record { a = have.a; b = have.b; c = have.c };
     } in
-    subst (λ (n : Division). Proceeds (question_left d (Divisor x) y) (question_most (Divisor x)) d Zero n) (sym new_is) here
+    subst (λ (n : Division). Proceeds (question_left d (Divisor x) y) (question_most (Divisor x)) (course.Division d) Zero (course.Division n)) (sym new_is) here
 
 -- the signs aren't among the places
 pub signs_proceed : (left : Plan) (most : ℕ) (d new : Division) (negative turned : Bool) (result : Next)
-    → Proceeds left most (record d { negative = negative; turned = turned }) result new → Proceeds left most d result new
+    → Proceeds left most (course.Division (record d { negative = negative; turned = turned })) result (course.Division new) → Proceeds left most (course.Division d) result (course.Division new)
 signs_proceed left most d new negative turned result h = record {
   next = h.next;
   waits = h.waits;
   shorter = h.shorter;
-  possible = λ have. h.possible (record { a = have.a; b = have.b; c = have.c });
-  registers = λ have. h.registers (record { a = have.a; b = have.b; c = have.c });
+  possible = λ words channels have. h.possible words channels (record { a = have.a; b = have.b; c = have.c });
+  places = λ channels have. h.places channels (record { a = have.a; b = have.b; c = have.c });
 }
 
 -- the same where what is left is said otherwise
@@ -164,13 +165,13 @@ GoesDown-more Done n m k le h = tt
 GoesDown-more Zero n m k le h = tt
 
 pub proceeds_same : (left other : Plan) (most more : ℕ) (d new : Division) (result : Next) → ((zero_divisor rest : Acts) → other zero_divisor rest ≡ left zero_divisor rest) → most ≤ more
-    → Proceeds left most d result new → Proceeds other more d result new
+    → Proceeds left most (course.Division d) result (course.Division new) → Proceeds other more (course.Division d) result (course.Division new)
 proceeds_same left other most more d new result same le h = record {
   next = IsNext-same left other result (division_left new) same h.next;
   waits = h.waits;
   shorter = GoesDown-more result most more (stage_most new.stage) le h.shorter;
   possible = h.possible;
-  registers = h.registers;
+  places = h.places;
 }
 
 -- ---- a plan begins

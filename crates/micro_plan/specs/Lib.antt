@@ -1,3 +1,6 @@
+pub use Rattle.moduli_sets.specs.Moduli
+pub use Rattle.moduli_sets.specs.Name
+pub use Rattle.machine_table.specs.Operands
 pub use Rattle.machine_table.specs.Control
 pub use Rattle.machine_table.specs.Integers
 pub use Rattle.channel_lane.specs.Meaning

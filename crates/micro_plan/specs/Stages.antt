@@ -1,7 +1,7 @@
 -- What is left of a plan, by where it stands.
-use Rattle.std.specs.Prelude.{◌≡◌, ℕ, zero, suc, ◌+◌, ◌*◌, ◌<◌, ℤ, pos, negsuc, Bool, true, false, Option, Some, None, IsSome}
+use Rattle.std.specs.Prelude.{◌≡◌, ℕ, suc, ◌+◌, ◌*◌, ◌<◌, ℤ, pos, negsuc, Bool, true, false, Option, Some, None, IsSome}
 use Rattle.channel_alu.specs.declared.operation.Place.{Place}
-use Rattle.channel_alu.specs.declared.operation.Place.TheVariants.{Reg, Scratch}
+use Rattle.channel_alu.specs.declared.operation.Place.TheVariants.{Reg}
 use Rattle.channel_alu.specs.declared.operation.MicroOp.{MicroOp}
 use Rattle.channel_alu.specs.declared.operation.MicroOp.TheVariants.{Copy, Neg, Unscale}
 use Rattle.number_theory.specs.Residue.{residue, quotient}
@@ -25,9 +25,9 @@ use Rattle.micro_plan.specs.declared.plan_division.Stage.TheVariants.{Hears, Doe
 use Rattle.micro_plan.specs.declared.plan_division.Division.{Division}
 use Rattle.micro_plan.specs.ActTree.{Acts, issue, ask, print, go_on, end_by}
 use Rattle.micro_plan.specs.Plans.{IsNext}
-use Rattle.micro_plan.specs.Division.{Plan, most_doings, doubling_acts, subtracting_acts, counting_acts, sign_acts, turning_acts, division_acts, quotient_acts, signed_acts, remainder_acts}
+use Rattle.micro_plan.specs.Division.{Plan, doubling_acts, subtracting_acts, counting_acts, sign_acts, turning_acts, division_acts, quotient_acts, signed_acts, remainder_acts}
 
--- ---- further along in acts
+-- ---- further along in acts: where they don't begin so, the acts themselves
 -- after the first operation
 abbrev pub after : Acts → Acts
 after (issue op acts) = acts
@@ -108,6 +108,17 @@ stage_left d (Hears question) None = question_left d question (pos 0)
 abbrev pub division_left : Division → Option ℤ → Plan
 division_left d told = stage_left d d.stage told
 
+-- an integer is told next
+abbrev pub is_heard : Stage → Bool
+is_heard (Does step) = false
+is_heard (Hears question) = true
+
+-- the registers exist
+pub record HasRegisters (d : Division) : Type 0 where
+  pub a : d.a < 16
+  pub b : d.b < 16
+  pub c : d.c < 16
+
 -- ---- how much is left at the most, operations and Shows
 -- of the last operations
 abbrev pub finish_most : ℕ
@@ -153,47 +164,6 @@ abbrev pub stage_most : Stage → ℕ
 stage_most (Does step) = step_most step
 stage_most (Hears question) = question_most question
 
--- ---- what a plan's answer owes
--- an integer is told next
-abbrev pub is_heard : Stage → Bool
-is_heard (Does step) = false
-is_heard (Hears question) = true
-
-abbrev pub is_await : Next → Bool
-is_await (Issue op) = false
-is_await (Await place) = true
-is_await Done = false
-is_await Zero = false
-
--- an operation or a Show leaves less to do
-abbrev pub GoesDown : ℕ → Next → ℕ → Type 0
-GoesDown before (Issue op) after = after < before
-GoesDown before (Await place) after = after < before
-GoesDown before Done after = Unit {0}
-GoesDown before Zero after = Unit {0}
-
--- the operation that is issued can be performed, where there are so many words and channels, and is no Show; the place
--- that is shown exists
-abbrev pub CanBeDone : ℕ → ℕ → Next → Type 0
-CanBeDone words channels (Issue op) = CanPerform words channels op × IsSome (destination op)
-CanBeDone words channels (Await place) = HasPlace words place
-CanBeDone words channels Done = Unit {0}
-CanBeDone words channels Zero = Unit {0}
-
--- the registers exist
-pub record HasRegisters (d : Division) : Type 0 where
-  pub a : d.a < 16
-  pub b : d.b < 16
-  pub c : d.c < 16
-
--- An answer of a division, where so much is left of it, and what the division then is.
-pub record Proceeds (left : Plan) (most : ℕ) (old : Division) (result : Next) (new : Division) : Type 0 where
-  pub next : IsNext left result (division_left new)
-  pub waits : is_heard new.stage ≡ is_await result
-  pub shorter : GoesDown most result (stage_most new.stage)
-  pub possible : HasRegisters old → (words channels : ℕ) → CanBeDone words channels result
-  pub registers : HasRegisters old → HasRegisters new
-
 -- ---- scaling
 -- the division of x by the modulus of the channel
 abbrev pub unscale_of : Scaling → ℤ → MicroOp
@@ -223,14 +193,6 @@ pub record HasChannel (channels : ℕ) (s : Scaling) : Type 0 where
   pub a : s.a < 16
   pub b : s.b < 16
   pub channel : s.channel < channels
-
--- an answer of a scaling, likewise
-pub record Scales (left : Plan) (most : ℕ) (old : Scaling) (result : Next) (new : Scaling) : Type 0 where
-  pub next : IsNext left result (scaling_left new)
-  pub waits : is_told new.scale ≡ is_await result
-  pub shorter : GoesDown most result (scale_most new.scale)
-  pub possible : (words channels : ℕ) → HasChannel channels old → CanBeDone words channels result
-  pub places : (channels : ℕ) → HasChannel channels old → HasChannel channels new
 
 -- ---- plans
 -- what is left of a plan, by what is told
@@ -264,3 +226,33 @@ CourseHasPlaces channels (course.Division d) = HasRegisters d
 
 abbrev pub HasPlaces : ℕ → PlanUnderWay → Type 0
 HasPlaces channels plan = CourseHasPlaces channels plan.course
+
+-- ---- what a plan's answer owes
+abbrev pub is_await : Next → Bool
+is_await (Issue op) = false
+is_await (Await place) = true
+is_await Done = false
+is_await Zero = false
+
+-- an operation or a Show leaves less to do
+abbrev pub GoesDown : ℕ → Next → ℕ → Type 0
+GoesDown before (Issue op) after = after < before
+GoesDown before (Await place) after = after < before
+GoesDown before Done after = Unit {0}
+GoesDown before Zero after = Unit {0}
+
+-- the operation that is issued can be performed, where there are so many words and channels, and is no Show; the place
+-- that is shown exists
+abbrev pub CanBeDone : ℕ → ℕ → Next → Type 0
+CanBeDone words channels (Issue op) = CanPerform words channels op × IsSome (destination op)
+CanBeDone words channels (Await place) = HasPlace words place
+CanBeDone words channels Done = Unit {0}
+CanBeDone words channels Zero = Unit {0}
+
+-- an answer of a plan of which so much is left, and how the plan then stands
+pub record Proceeds (left : Plan) (most : ℕ) (old : Course) (result : Next) (new : Course) : Type 0 where
+  pub next : IsNext left result (course_left new)
+  pub waits : course_waits new ≡ is_await result
+  pub shorter : GoesDown most result (course_most new)
+  pub possible : (words channels : ℕ) → CourseHasPlaces channels old → CanBeDone words channels result
+  pub places : (channels : ℕ) → CourseHasPlaces channels old → CourseHasPlaces channels new

@@ -115,6 +115,7 @@ pub struct Division {
 }
 
 impl Division {
+    ghost use Rattle.micro_plan.specs.declared.plan.Course.TheVariants as course;
     ghost use Rattle.micro_plan.specs.declared.plan_division.Stage.TheVariants.{Hears, Does};
     ghost use Rattle.micro_plan.specs.declared.plan_division.Step.TheVariants.{ShowDividend};
     ghost use Rattle.micro_plan.specs.declared.plan_division.Question.TheVariants.{Divisor};
@@ -142,7 +143,8 @@ impl Division {
     /// What comes next, by what was told.
     pub fn next(&mut self, told: Option<i128>) -> Next
         requires { is_some told ≡ is_heard self.old.stage }
-        ensures { Proceeds (division_left self.old told) (stage_most self.old.stage) self.old result self.new }
+        ensures { Proceeds (division_left self.old told) (stage_most self.old.stage)
+            (course.Division self.old) result (course.Division self.new) }
     {
         match (self.stage, told) {
             (Stage::Does(step), None) => self.perform(step),
@@ -154,7 +156,8 @@ impl Division {
     /// Does a step, in which nothing is told.
     fn perform(&mut self, step: Step) -> Next
         requires { self.old.stage ≡ Does step }
-        ensures { Proceeds (step_left self.old step) (step_most step) self.old result self.new }
+        ensures { Proceeds (step_left self.old step) (step_most step)
+            (course.Division self.old) result (course.Division self.new) }
     {
         match step {
             Step::ShowDividend => self.show(Place::Reg(self.b), Question::Dividend),
@@ -192,7 +195,8 @@ impl Division {
 
     /// Goes on by what is told.
     fn hear(&mut self, question: Question, x: i128) -> Next
-        ensures { Proceeds (question_left self.old question x) (question_most question) self.old result self.new }
+        ensures { Proceeds (question_left self.old question x) (question_most question)
+            (course.Division self.old) result (course.Division self.new) }
     {
         match question {
             Question::Dividend => self.show(Place::Reg(self.c), Question::Divisor(x)),
@@ -216,7 +220,9 @@ impl Division {
 
     /// Goes on by the signs of dividend and divisor.
     fn hear_divisor(&mut self, dividend: i128, divisor: i128) -> Next
-        ensures { Proceeds (question_left self.old (Divisor dividend) divisor) (question_most (Divisor dividend)) self.old result self.new }
+        ensures { Proceeds (question_left self.old (Divisor dividend) divisor)
+            (question_most (Divisor dividend))
+            (course.Division self.old) result (course.Division self.new) }
     {
         if is_zero(divisor) {
             self.stage = Stage::Does(Step::Zero);
@@ -230,7 +236,8 @@ impl Division {
 
     /// The first of the last operations.
     fn finish(&mut self) -> Next
-        ensures { Proceeds (λ zero_divisor rest. finish self.old rest) finish_most self.old result self.new }
+        ensures { Proceeds (λ zero_divisor rest. finish self.old rest) finish_most
+            (course.Division self.old) result (course.Division self.new) }
     {
         match (self.part, self.turned) {
             (Part::Quotient, true) => self.issue(put(S4, -1), Step::SubtractCount),

@@ -29,8 +29,9 @@ pub struct Scaling {
 }
 
 impl Scaling {
+    ghost use Rattle.micro_plan.specs.declared.plan.Course.TheVariants as course;
     ghost use Rattle.micro_plan.specs.declared.plan_scaling.Scale.TheVariants.{Shows};
-    ghost use Rattle.micro_plan.specs.Stages.{Scales, scaling_left, unscale_of, is_told, scale_most};
+    ghost use Rattle.micro_plan.specs.Stages.{Proceeds, scaling_left, unscale_of, is_told, scale_most};
 
     /// The plan of R(b) divided by the modulus of a channel, which R(a) becomes.
     pub fn of(a: u8, b: u8, channel: u8, modulus: u32) -> Scaling
@@ -53,7 +54,8 @@ impl Scaling {
     /// What comes next, by what was told.
     pub fn next(&mut self, told: Option<i128>) -> Next
         requires { is_some told ≡ is_told self.old.scale }
-        ensures { Scales (scaling_left self.old told) (scale_most self.old.scale) self.old result self.new }
+        ensures { Proceeds (scaling_left self.old told) (scale_most self.old.scale)
+            (course.Scaling self.old) result (course.Scaling self.new) }
     {
         match (self.scale, told) {
             (Scale::Shows, None) => {

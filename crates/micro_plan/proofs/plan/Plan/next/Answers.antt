@@ -10,9 +10,13 @@ returns-in-Scaling-clause-possible c =
 
 pub returns-in-Division-clause-possible : goal.returns-in-Division-clause-possible
 returns-in-Division-clause-possible c =
-    λ words channels have. c.next-in-Division.ensures.possible (subst (CourseHasPlaces channels) c.in-Division.is have) words channels
+    λ words channels have. c.next-in-Division.ensures.possible words channels (subst (CourseHasPlaces channels) c.in-Division.is have)
 
 pub returns-in-Division-clause-next : goal.returns-in-Division-clause-next
 returns-in-Division-clause-next c =
     subst (λ (course : Course). IsNext (course_left course c.args.told) c.next-in-Division.result (division_left c.next-in-Division.new.self)) (sym c.in-Division.is)
     c.next-in-Division.ensures.next
+
+pub returns-in-Division-clause-places : goal.returns-in-Division-clause-places
+returns-in-Division-clause-places c =
+    λ channels have. c.next-in-Division.ensures.places channels (subst (CourseHasPlaces channels) c.in-Division.is have)

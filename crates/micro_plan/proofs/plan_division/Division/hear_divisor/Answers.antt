@@ -1,4 +1,4 @@
-use Rattle.std.proofs.Common.{arith, rules, refl, ◌∙◌, ◌≡◌, ◌==◌, ◌||◌, ap, sym, true, false, to_z, of_z}
+use Rattle.std.proofs.Common.{arith, refl, ◌∙◌, ◌≡◌, ap, sym, true, false, to_z, of_z}
 use Rattle.std.specs.Int.{w128}
 use Rattle.std.proofs.lemmas.Int.{to_z-of_z}
 use Rattle.machine_table.specs.Control.{is_negative, is_zero}
@@ -28,4 +28,4 @@ returns c =
     signs_proceed _ _ c.args.self.now _ _ _ _
     (issue_proceeds (question_left c.args.self.now (Divisor x) y) _ d _ _ _ SignDivisor _ c.signed-op.ensures c.issue.ensures.next c.issue.ensures.division
     (λ zero_divisor rest. signs_told c.args.self.now x y _ _ zero_divisor rest some negative turned) (omega arith)
-    (λ have words channels. signed-possible _ _ _ words channels (omega arith) have.b))
+    (λ words channels have. signed-possible _ _ _ words channels (omega arith) have.b))
