@@ -1,0 +1,9 @@
+pub use Rattle.machine_table.specs.Faults
+pub use Rattle.machine_table.specs.Objects
+pub mod Layout
+pub mod Record
+pub mod Spelling
+pub mod Loading
+pub mod Programs
+pub mod Header
+pub mod Laws
