@@ -1,5 +1,5 @@
 -- Worked rows of sources: the intervals of their nodes, and the lines of what is too wide.
-use Rattle.std.proofs.Common.{◌≡◌, refl, ap, ℕ, ℤ, pos, neg_ℤ, List, [], ◌∷◌}
+use Rattle.std.proofs.Common.{◌≡◌, ◌∙◌, ◌++◌, refl, ap, ℕ, ℤ, pos, neg_ℤ, List, [], ◌∷◌}
 use Rattle.moduli_sets.specs.declared.set_name.SetName.TheVariants.{Pocket, Desk}
 use Rattle.source_tree.specs.declared.name.Name.{Name as SourceName}
 use Rattle.source_tree.specs.declared.name.Range.{Range}
@@ -7,12 +7,14 @@ use Rattle.source_tree.specs.declared.declaration.Program.{Program}
 use Rattle.source_tree.specs.declared.declaration.Declaration.TheVariants.{Var, Array}
 use Rattle.source_tree.specs.declared.expression.Comparison.TheVariants.{Less}
 use Rattle.source_tree.specs.declared.expression.Operator.TheVariants.{Add, Sub, Mul}
+use Rattle.source_tree.specs.Scope.{range_at}
 use Rattle.source_tree.specs.declared.expression.Expr.{Number, Name, Element, Binary}
+use Rattle.source_tree.specs.declared.expression.Expr.TheOpen as expr
 use Rattle.source_tree.specs.declared.statement.Place.TheVariants.{Element as AtElement}
 use Rattle.source_tree.specs.declared.statement.Statement.{Assign, Print, While}
 use Rattle.range_inference.specs.Bound.{bound_of}
-use Rattle.range_inference.specs.Demands.{node, limit, demands_of, wide_lines, too_wide, intervals_in}
-use Rattle.range_inference.specs.Interval.{from_to}
+use Rattle.range_inference.specs.Demands.{Demand, node, limit, Judged, judged_node, judged, expr_demands, statement_demands, demands_of, wide_lines, too_wide, intervals_in}
+use Rattle.range_inference.specs.Interval.{Ranges, from_to}
 use Rattle.range_inference.proofs.Equations.{judged-Number, judged-Name, judged-Element, judged-Binary, demands-Assign, demands-Print, demands-While}
 
 abbrev x : ℕ → SourceName
@@ -30,9 +32,25 @@ range low high = record { low = low; high = high }
 abbrev sum_of_two : Program
 sum_of_two = record { declarations = []; statements = Print (Binary (Number (pos 49) 2) Add (Number (pos 49) 3) 2) 1 ∷ [] }
 
+-- ranges where nothing is declared
+abbrev empty_scope : Ranges
+empty_scope = range_at []
+
+-- what a sum demands, by what is judged of its sides
+abbrev sum_after : Judged → Judged → List Demand
+sum_after left right = (judged_node (expr.Binary left Add right 2)).demands empty_scope ++ []
+
+-- what a number demands
+number_demands : (value : ℤ) (line : ℕ) → expr_demands (Number value line) empty_scope ≡ node (from_to value value) line ∷ []
+number_demands value line = ap (λ j. j.demands empty_scope) (judged-Number value line)
+
 sum_demands : demands_of sum_of_two
     ≡ node (from_to (pos 49) (pos 49)) 2 ∷ (node (from_to (pos 49) (pos 49)) 3 ∷ (node (from_to (pos 98) (pos 98)) 2 ∷ []))
-sum_demands = rw demands-Print (rw judged-Binary (rw (judged-Number (pos 49) 2) (rw (judged-Number (pos 49) 3) refl)))
+sum_demands =
+    ap (λ f. f empty_scope ++ []) (demands-Print (Binary (Number (pos 49) 2) Add (Number (pos 49) 3) 2) 1)
+    ∙ ap (λ j. j.demands empty_scope ++ []) (judged-Binary (Number (pos 49) 2) Add (Number (pos 49) 3) 2)
+    ∙ ap (λ j. sum_after j (judged (Number (pos 49) 3))) (judged-Number (pos 49) 2)
+    ∙ ap (λ j. sum_after (judged_node (expr.Number (pos 49) 2)) j) (judged-Number (pos 49) 3)
 
 pub sum_on_pocket : too_wide (bound_of Pocket) sum_of_two ≡ 2 ∷ []
 sum_on_pocket = ap (wide_lines (bound_of Pocket)) sum_demands
@@ -98,10 +116,20 @@ limited = record {
   statements = While (record { left = Number (pos 0) 1; comparison = Less; right = Number (pos 98) 2; line = 1 }) (pos 99) (Print (Number (pos 100) 3) 3 ∷ []) 1 ∷ [];
 }
 
+-- what it demands, by what its two sides and its list do
+abbrev limited_after : List Demand → List Demand → List Demand → List Demand
+limited_after left right body = ((left ++ right) ++ limit (pos 99) 1 ∷ (body ++ [])) ++ []
+
 limited_demands : demands_of limited
     ≡ node (from_to (pos 0) (pos 0)) 1 ∷ (node (from_to (pos 98) (pos 98)) 2 ∷ (limit (pos 99) 1 ∷ (node (from_to (pos 100) (pos 100)) 3 ∷ [])))
 limited_demands =
-    rw demands-While (rw (judged-Number (pos 0) 1) (rw (judged-Number (pos 98) 2) (rw demands-Print (rw (judged-Number (pos 100) 3) refl))))
+    let body = statement_demands (Print (Number (pos 100) 3) 3) empty_scope in
+    ap (λ f. f empty_scope ++ [])
+    (demands-While (record { left = Number (pos 0) 1; comparison = Less; right = Number (pos 98) 2; line = 1 }) (pos 99) (Print (Number (pos 100) 3) 3 ∷ []) 1)
+    ∙ ap (λ l. limited_after l (expr_demands (Number (pos 98) 2) empty_scope) body) (number_demands (pos 0) 1)
+    ∙ ap (λ l. limited_after (node (from_to (pos 0) (pos 0)) 1 ∷ []) l body) (number_demands (pos 98) 2)
+    ∙ ap (limited_after (node (from_to (pos 0) (pos 0)) 1 ∷ []) (node (from_to (pos 98) (pos 98)) 2 ∷ []))
+      (ap (λ f. f empty_scope) (demands-Print (Number (pos 100) 3) 3) ∙ number_demands (pos 100) 3)
 
 -- condition, limit, list
 pub limit_between : too_wide (bound_of Pocket) limited ≡ 2 ∷ (1 ∷ (3 ∷ []))
