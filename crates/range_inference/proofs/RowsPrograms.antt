@@ -129,7 +129,7 @@ limited_demands =
     ∙ ap (λ l. limited_after l (expr_demands (Number (pos 98) 2) empty_scope) body) (number_demands (pos 0) 1)
     ∙ ap (λ l. limited_after (node (from_to (pos 0) (pos 0)) 1 ∷ []) l body) (number_demands (pos 98) 2)
     ∙ ap (limited_after (node (from_to (pos 0) (pos 0)) 1 ∷ []) (node (from_to (pos 98) (pos 98)) 2 ∷ []))
-      (ap (λ f. f empty_scope) (demands-Print (Number (pos 100) 3) 3) ∙ number_demands (pos 100) 3)
+    (ap (λ f. f empty_scope) (demands-Print (Number (pos 100) 3) 3) ∙ number_demands (pos 100) 3)
 
 -- condition, limit, list
 pub limit_between : too_wide (bound_of Pocket) limited ≡ 2 ∷ (1 ∷ (3 ∷ []))

@@ -1,5 +1,5 @@
 -- Acts, and then others: what is shown of them, one after the other.
-use Rattle.std.proofs.Common.{◌≡◌, ℕ, ℤ, List, Option, None, Some, refl, ap}
+use Rattle.std.proofs.Common.{◌≡◌, ℤ, List, Option, None, Some, refl, ap}
 use Rattle.std.specs.Option.{option_map_or}
 use Rattle.channel_alu.specs.declared.operation.MicroOp.TheVariants.{Show}
 use Rattle.fault_book.specs.Book.{Book}

@@ -1,5 +1,5 @@
 -- The function `nearest` gives the nearest integer.
-use Rattle.std.proofs.Common.{◌≡◌, ℕ, zero, suc, ◌+◌, ◌≤◌, true, false, cond, nat_le, List, Option, None, Some, ◌⊎◌, refl, ap, subst, arith, inl, inr, ℤ, pos, negsuc, neg_ℤ, ◌≤ℤ◌}
+use Rattle.std.proofs.Common.{◌≡◌, ℕ, zero, suc, ◌≤◌, true, false, cond, nat_le, List, Option, None, Some, ◌⊎◌, refl, ap, subst, arith, inl, inr, ℤ, pos, negsuc, neg_ℤ, ◌≤ℤ◌}
 use Rattle.std.proofs.lemmas.Bool.{cases_lt}
 use Rattle.std.proofs.lemmas.Bool.Decides.{nat_tests}
 use Rattle.std.proofs.lemmas.Int.{ints}
@@ -46,9 +46,9 @@ IsFound-wider t erased ms v n None above below h =
     λ x low high near. elim (ends n x low high) [
       | inl e ↦ far (distance (without erased (vector_of ms (pos (suc n)))) (without erased v)) t above (subst (λ z. distance (without erased (vector_of ms z)) (without erased v) ≤ t) e near)
       | inr rest ↦ elim rest [
-          | inl e ↦ far (distance (without erased (vector_of ms (negsuc n))) (without erased v)) t below (subst (λ z. distance (without erased (vector_of ms z)) (without erased v) ≤ t) e near)
-          | inr inside ↦ h x inside.0 inside.1 near
-        ]
+        | inl e ↦ far (distance (without erased (vector_of ms (negsuc n))) (without erased v)) t below (subst (λ z. distance (without erased (vector_of ms z)) (without erased v) ≤ t) e near)
+        | inr inside ↦ h x inside.0 inside.1 near
+      ]
     ]
 
 found : (t : ℕ) (erased : Option ℕ) (ms v : List ℕ) (n : ℕ) → IsFound t erased ms v n (first_within t erased ms v n)
@@ -64,9 +64,9 @@ found t erased ms v (suc n) =
     elim (nat_le (d (pos (suc n))) t) as (λ b. nat_le (d (pos (suc n))) t ≡ b → IsFound t erased ms v (suc n) (cond b (Some (pos (suc n))) (cond (nat_le (d (negsuc n)) t) (Some (negsuc n)) (first_within t erased ms v n)))) [
       | true ↦ λ e. (omega (arith, ints), omega (arith, ints), close (d (pos (suc n))) t e)
       | false ↦ λ above. elim (nat_le (d (negsuc n)) t) as (λ b. nat_le (d (negsuc n)) t ≡ b → IsFound t erased ms v (suc n) (cond b (Some (negsuc n)) (first_within t erased ms v n))) [
-          | true ↦ λ e. (omega (arith, ints), omega (arith, ints), close (d (negsuc n)) t e)
-          | false ↦ λ below. IsFound-wider t erased ms v n (first_within t erased ms v n) above below (found t erased ms v n)
-        ] refl
+        | true ↦ λ e. (omega (arith, ints), omega (arith, ints), close (d (negsuc n)) t e)
+        | false ↦ λ below. IsFound-wider t erased ms v n (first_within t erased ms v n) above below (found t erased ms v n)
+      ] refl
     ] refl
 
 IsNearest-found : (t : ℕ) (erased : Option ℕ) (set : ModuliSet) (v : List ℕ) (o : Option ℤ) → IsFound t erased set.moduli v (range_bound set) o → IsNearest t erased set v o

@@ -1,5 +1,5 @@
 -- What a run did, in order, and what is read off it.
-use Rattle.std.specs.Prelude.{◌≡◌, ℕ, ◌+◌, ◌==◌, ℤ, Bool, true, false, ◌||◌, List, [], ◌∷◌, Option, if◌then◌else◌}
+use Rattle.std.specs.Prelude.{◌≡◌, ℕ, ◌+◌, ◌==◌, ℤ, Bool, false, ◌||◌, List, [], ◌∷◌, Option, if◌then◌else◌}
 use Rattle.moduli_sets.specs.declared.kind.Kind.{Kind}
 use Rattle.moduli_sets.specs.Set.{ModuliSet}
 use Rattle.moduli_sets.specs.Vector.{vector_of}
@@ -8,7 +8,7 @@ use Rattle.channel_alu.specs.declared.operation.MicroOp.{MicroOp}
 use Rattle.channel_alu.specs.declared.operation.MicroOp.TheVariants.{Show}
 use Rattle.redundant_decoder.specs.Nearest.{different_places}
 use Rattle.machine_table.specs.Control.{Control, End, halts, traps}
-use Rattle.machine_table.specs.Integers.{IntegerRun, IntegerEnding, halt as halt_of_integers, trap as trap_of_integers, spent as spent_of_integers, ending_of as integer_ending}
+use Rattle.machine_table.specs.Integers.{IntegerRun, halt as halt_of_integers, trap as trap_of_integers, spent as spent_of_integers, ending_of as integer_ending}
 
 -- An operation was issued; a place was shown, with its column and the integer that control went on with; an integer was
 -- printed. In the end control stands at an instruction, or the program ended, or no integer in range explains a column.

@@ -7,5 +7,5 @@ pub returns : goal.returns
 returns c = record {
   acts = shown-then;
   instructions = λ decode book set code n control lanes.
-    shown-then decode book (acts_of set (instruction_at code control.counter) control) lanes (acts_of_run set code n);
+      shown-then decode book (acts_of set (instruction_at code control.counter) control) lanes (acts_of_run set code n);
 }
