@@ -159,9 +159,27 @@ fn vectors_are_decoded(rt: HostRuntime) -> Result<(), Fail> {
 }
 
 #[test]
+fn sources_mean(rt: HostRuntime) -> Result<(), Fail> {
+    for (source, printed, ended) in [
+        (FIRST, "-4\nend\n", Status::Ok),
+        (TWO, "5\n7\nend\n", Status::Ok),
+        (
+            "var x: 0..9;\nx := 9;\nx := x + 1;\n",
+            "trap range 3\n",
+            Status::Trap,
+        ),
+    ] {
+        let words = ["mean", "a.src", "-"];
+        let (status, written) = done(rt.alloc(), &words, source.as_bytes(), &NONE)?;
+        assert_eq!(rt; status, ended, "{source}");
+        assert_eq!(rt; written.as_slice(), printed.as_bytes(), "{source}");
+    }
+    Ok(())
+}
+
+#[test]
 fn meanings_are_refused(rt: HostRuntime) -> Result<(), Fail> {
     for (source, refusal) in [
-        (FIRST, "unbuilt 0"),
         ("print 1;\n\n.\n", "byte 3"),
         (
             "print 170141183460469231731687303715884105728;",
@@ -170,6 +188,9 @@ fn meanings_are_refused(rt: HostRuntime) -> Result<(), Fail> {
         ("var x 0..9;", "syntax 1"),
         ("print 1\n", "syntax 2"),
         ("print 1;\nprint 2 3;\n", "syntax 2"),
+        ("print 1;\nprint z;\n", "unknown-name 2"),
+        ("print 1;\nvar x: 1..0;\n", "bad-range 2"),
+        ("print 451727098180\n + 1;\n", "too-wide 2"),
     ] {
         let words = ["mean", "a.src", "-"];
         let (status, written) = done(rt.alloc(), &words, source.as_bytes(), &NONE)?;

@@ -4,12 +4,12 @@ use Rattle.std.specs.Fmt.{decimal}
 use Rattle.number_text.specs.Lines.{line}
 use Rattle.source_reader.specs.declared.fault.SourceFault.{SourceFault}
 use Rattle.source_reader.specs.declared.fault.SourceKind.{SourceKind}
-use Rattle.source_reader.specs.declared.fault.SourceKind.TheVariants.{Byte, LongNumber, Syntax, TooDeep, Unbuilt}
+use Rattle.source_reader.specs.declared.fault.SourceKind.TheVariants.{Byte, LongNumber, Syntax, TooDeep, UnknownName, NameTwice, WrongKind, LoopAssigned, Arguments, BadRange, EmptyArray, TooMany, TooWide, Unbuilt}
 use Rattle.word_readers.specs.Operands.{IsFileWord, file_name}
 use Rattle.job_endings.specs.declared.status.Status.{Status}
 use Rattle.job_endings.specs.declared.status.Status.TheVariants as status
 use Rattle.job_endings.specs.declared.refusal.Refusal.{Refusal}
-use Rattle.job_endings.specs.declared.refusal.Refusal.TheVariants.{Usage, Unread, TooLong, Source}
+use Rattle.job_endings.specs.declared.refusal.Refusal.TheVariants.{Usage, Unread, TooLong, Source, Input}
 use Rattle.job_endings.specs.declared.refusal.Stop.{Stop}
 use Rattle.job_endings.specs.declared.refusal.Stop.TheVariants.{Refused, NoMemory}
 
@@ -19,6 +19,15 @@ kind_text Byte = codes "byte"
 kind_text LongNumber = codes "long-number"
 kind_text Syntax = codes "syntax"
 kind_text TooDeep = codes "too-deep"
+kind_text UnknownName = codes "unknown-name"
+kind_text NameTwice = codes "name-twice"
+kind_text WrongKind = codes "wrong-kind"
+kind_text LoopAssigned = codes "loop-assigned"
+kind_text Arguments = codes "arguments"
+kind_text BadRange = codes "bad-range"
+kind_text EmptyArray = codes "empty-array"
+kind_text TooMany = codes "too-many"
+kind_text TooWide = codes "too-wide"
 kind_text Unbuilt = codes "unbuilt"
 
 abbrev pub source_line : SourceFault → List ℕ
@@ -30,12 +39,14 @@ refusal_line words Usage = line (codes "usage")
 refusal_line words (Unread file) = line (codes "unread " ++ file_name words file)
 refusal_line words (TooLong file) = line (codes "too long " ++ file_name words file)
 refusal_line words (Source fault) = line (source_line fault)
+refusal_line words (Input place) = line (codes "refused input " ++ decimal place)
 
 abbrev pub refusal_status : Refusal → Status
 refusal_status Usage = status.Usage
 refusal_status (Unread file) = status.Unread
 refusal_status (TooLong file) = status.TooLong
 refusal_status (Source fault) = status.SourceRefused
+refusal_status (Input place) = status.InputRefused
 
 -- whether the line of a refusal has the name of a file
 abbrev pub names_file : Refusal → Bool
@@ -43,6 +54,7 @@ names_file Usage = false
 names_file (Unread file) = true
 names_file (TooLong file) = true
 names_file (Source fault) = false
+names_file (Input place) = false
 
 -- the file that a refusal names is named by the words
 abbrev pub IsOfWords : List (List ℕ) → Refusal → Type 0
@@ -50,6 +62,7 @@ IsOfWords words Usage = Unit {0}
 IsOfWords words (Unread file) = IsFileWord words file
 IsOfWords words (TooLong file) = IsFileWord words file
 IsOfWords words (Source fault) = Unit {0}
+IsOfWords words (Input place) = Unit {0}
 
 abbrev pub IsStopOfWords : List (List ℕ) → Stop → Type 0
 IsStopOfWords words (Refused refusal) = IsOfWords words refusal

@@ -1,4 +1,5 @@
-ghost use Rattle.std.specs.Prelude.{◌≡◌, ◌≢◌, ◌++◌, [], ◌∷◌, false, IfOk, map, string_bytes};
+ghost use Rattle.std.specs.Prelude.{◌≡◌, ◌≢◌, ◌++◌, [], ◌∷◌, false, IfOk, codes, map, string_bytes};
+ghost use Rattle.std.specs.Fmt.{decimal};
 ghost use Rattle.number_text.specs.Lines.{line};
 ghost use Rattle.word_readers.specs.Operands.{IsFileWord, file_name};
 ghost use Rattle.job_endings.specs.Endings.{EndsPut, EndsWith};
@@ -23,6 +24,8 @@ pub enum Refusal {
     TooLong(FileWord),
     /// The source is refused.
     Source(SourceFault),
+    /// The first word of the input that is no whole number stands at this place, counted in bytes from 0.
+    Input(usize),
 }
 
 /// Why a job stops before anything is put.
@@ -67,6 +70,7 @@ pub fn put_refusal<K: Sink>(
             )
         }
         Refusal::Source(fault) => put_lines(sink, &[source_line(fault)], Status::SourceRefused),
+        Refusal::Input(place) => put_lines(sink, &[input_line(place)], Status::InputRefused),
     }
 }
 
@@ -108,6 +112,15 @@ fn source_line(fault: SourceFault) -> Line
         SourceKind::LongNumber => b"long-number",
         SourceKind::Syntax => b"syntax",
         SourceKind::TooDeep => b"too-deep",
+        SourceKind::UnknownName => b"unknown-name",
+        SourceKind::NameTwice => b"name-twice",
+        SourceKind::WrongKind => b"wrong-kind",
+        SourceKind::LoopAssigned => b"loop-assigned",
+        SourceKind::Arguments => b"arguments",
+        SourceKind::BadRange => b"bad-range",
+        SourceKind::EmptyArray => b"empty-array",
+        SourceKind::TooMany => b"too-many",
+        SourceKind::TooWide => b"too-wide",
         SourceKind::Unbuilt => b"unbuilt",
     };
     Line::of(b"refused source ")
@@ -115,4 +128,11 @@ fn source_line(fault: SourceFault) -> Line
         .text(b" ")
         .count(u64::from(fault.line))
         .end()
+}
+
+/// The line `refused input PLACE`.
+fn input_line(place: usize) -> Line
+    ensures { result ≡ line (codes "refused input " ++ decimal place) }
+{
+    Line::of(b"refused input ").count(place as u64).end()
 }

@@ -1,3 +1,4 @@
+mod ExpressionLemmas
 mod FoldEquations
 mod RestLemmas
 mod RowsCalls
@@ -7,5 +8,6 @@ mod RowsUses
 mod RowsVisible
 mod StatementLemmas
 mod SymbolLemmas
+mod TieBounds
 mod VariableLemmas
 mod WalkLemmas

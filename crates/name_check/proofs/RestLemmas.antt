@@ -1,7 +1,7 @@
 -- What is left of a source after some of its declarations.
 use Rattle.std.proofs.Common.{◌≡◌, ℕ, ◌+◌, ◌<◌, ◌≤◌, List, [], ◌∷◌, ◌++◌, length, map, drop, get_or, Result, Ok, Err, refl, sym, ap, subst, ◌∙◌, arith, append_assoc}
 use Rattle.std.specs.Prelude.{sum_by, ⊤}
-use Rattle.std.proofs.lemmas.List.{append-nil, drop_more, drop_all}
+use Rattle.std.proofs.lemmas.List.{drop_more, drop_all}
 use Rattle.std.proofs.lemmas.List.Sums.{sum_by-drop_more}
 use Rattle.source_tree.specs.Scope.{Scope, names_in, with_declared}
 use Rattle.source_tree.specs.declared.declaration.Declaration.{Declaration}
@@ -11,7 +11,6 @@ use Rattle.name_check.specs.declared.fault.NameFault.{NameFault}
 use Rattle.name_check.specs.Names.{all_faults, declaration_faults, faults_of_rest, procedures_in, statement_faults}
 use Rattle.name_check.specs.Reported.{IsReported, Walks}
 use Rattle.name_check.specs.Ties.{all_ties, declaration_ties, statement_ties, ties_of_rest}
-use Rattle.name_check.specs.Visible.{Visible, scope_of}
 use Rattle.name_check.proofs.WalkLemmas.{stops}
 
 few_procedures : (d : Declaration) → procedures_in d ≤ names_in d
@@ -89,7 +88,3 @@ passed_all declarations statements i number procedures scope before so_far after
 passed_all declarations statements i number procedures scope before so_far after (Err fault) end passed walk =
     let none = drop_all i declarations end in
     subst (λ all. IsReported all fault) (sym (passed.faults ∙ ap (λ l. faults_of_rest number procedures l statements scope) none)) walk
-
--- outside procedures the scope is what is declared outside
-pub outer_scope : (visible : Visible) → visible.1 ≡ [] → scope_of visible ≡ visible.0
-outer_scope visible outside = ap (λ inner. visible.0 ++ inner) outside ∙ append-nil visible.0

@@ -1,91 +1,77 @@
 -- Parameters and locals are declared one after another: what is left of them says what they all say.
-use Rattle.std.proofs.Common.{◌≡◌, ℕ, ◌+◌, ◌<◌, ◌≤◌, List, [], ◌∷◌, ◌++◌, length, drop, get_or, refl, sym, ap, subst, ◌∙◌, arith, append_assoc}
-use Rattle.std.proofs.lemmas.List.{drop_more, drop_all}
-use Rattle.source_tree.specs.Scope.{Scope, variable, with_params, with_locals}
+use Rattle.std.proofs.Common.{◌≡◌, ℕ, ◌+◌, ◌<◌, ◌≤◌, List, [], ◌∷◌, ◌++◌, length, take, drop, get_or, refl, sym, ap, subst, ◌∙◌, arith, append_assoc}
+use Rattle.std.proofs.Math.Seq.{take-append_seam}
+use Rattle.std.proofs.lemmas.List.{append-nil, drop_more, drop_all}
+use Rattle.source_tree.specs.Scope.{Declared, Scope, variable, with_variables}
 use Rattle.source_tree.specs.declared.name.Name.{Name}
 use Rattle.source_tree.specs.declared.name.Range.{Range}
-use Rattle.source_tree.specs.declared.declaration.Param.{Param}
-use Rattle.source_tree.specs.declared.declaration.Local.{Local}
 use Rattle.name_check.specs.declared.fault.NameFault.{NameFault}
-use Rattle.name_check.specs.Names.{as_new, range_faults, params_faults, locals_faults}
+use Rattle.name_check.specs.Names.{as_new, range_faults, variables_faults}
 use Rattle.name_check.specs.Reported.{IsReported}
-use Rattle.name_check.specs.Visible.{Visible, scope_of, with_inner}
 use Rattle.name_check.proofs.WalkLemmas.{stops}
 
 module _ {A : Type 0} (name : A → Name) (range : A → Range) where
-  abbrev pub faults_from : ℕ → List A → Scope → List NameFault
-  faults_from k [] scope = []
-  faults_from k (x ∷ xs) scope =
-      as_new (name x) scope ++ (range_faults (range x) (name x).line ++ faults_from (k + 1) xs (scope ++ ((name x).bytes, variable k (range x)) ∷ []))
-
-  abbrev pub scope_from : ℕ → List A → Scope → Scope
-  scope_from k [] scope = scope
-  scope_from k (x ∷ xs) scope = scope_from (k + 1) xs (scope ++ ((name x).bytes, variable k (range x)) ∷ [])
-
   -- those before number i are declared: what is left says what all of them say
-  pub record HasDeclared (xs : List A) (i first number : ℕ) (start now : Visible) : Type 0 where
+  pub record HasDeclared (xs : List A) (i first number : ℕ) (start now : Scope) : Type 0 where
     pub counted : number ≡ first + i
-    pub faults : faults_from first xs (scope_of start) ≡ faults_from number (drop i xs) (scope_of now)
-    pub scope : scope_from first xs (scope_of start) ≡ scope_from number (drop i xs) (scope_of now)
-    pub outer : now.0 ≡ start.0
+    pub faults : variables_faults name range first xs start ≡ variables_faults name range number (drop i xs) now
+    pub scope : with_variables name range first xs start ≡ with_variables name range number (drop i xs) now
 
-  pub declared_first : (xs : List A) (first : ℕ) (start : Visible) → HasDeclared xs 0 first first start start
-  declared_first xs first start = record { counted = omega arith; faults = refl; scope = refl; outer = refl }
+  pub declared_first : (xs : List A) (first : ℕ) (start : Scope) → HasDeclared xs 0 first first start start
+  declared_first xs first start = record { counted = omega arith; faults = refl; scope = refl }
 
-  module _ (xs : List A) (i first number : ℕ) (start now : Visible) (x : A) (within : i < length xs) (is : x ≡ get_or xs i x)
-      (declared : HasDeclared xs i first number start now) where
+  -- the next, by its name n and its range r
+  module _ (xs : List A) (i first number : ℕ) (start now : Scope) (x : A) (within : i < length xs) (is : x ≡ get_or xs i x)
+      (declared : HasDeclared xs i first number start now) (n : Name) (r : Range) (same_name : n ≡ name x) (same_range : r ≡ range x) where
     left : drop i xs ≡ x ∷ drop (i + 1) xs
     left = drop_more xs i x within ∙ ap (λ y. y ∷ drop (i + 1) xs) (sym is)
 
-    faults_are : faults_from first xs (scope_of start)
-        ≡ (as_new (name x) (scope_of now) ++ range_faults (range x) (name x).line)
-        ++ faults_from (number + 1) (drop (i + 1) xs) (scope_of now ++ ((name x).bytes, variable number (range x)) ∷ [])
+    faults_are : variables_faults name range first xs start
+        ≡ (as_new n now ++ range_faults r n.line) ++ variables_faults name range (number + 1) (drop (i + 1) xs) (now ++ (n.bytes, variable number r) ∷ [])
     faults_are =
-        declared.faults ∙ ap (λ l. faults_from number l (scope_of now)) left
-        ∙ sym (append_assoc (as_new (name x) (scope_of now)) (range_faults (range x) (name x).line)
-        (faults_from (number + 1) (drop (i + 1) xs) (scope_of now ++ ((name x).bytes, variable number (range x)) ∷ [])))
+        declared.faults ∙ ap (λ l. variables_faults name range number l now) left
+        ∙ sym (append_assoc (as_new (name x) now) (range_faults (range x) (name x).line)
+        (variables_faults name range (number + 1) (drop (i + 1) xs) (now ++ ((name x).bytes, variable number (range x)) ∷ [])))
+        ∙ sym (λ j. (as_new (same_name j) now ++ range_faults (same_range j) (same_name j).line)
+        ++ variables_faults name range (number + 1) (drop (i + 1) xs) (now ++ ((same_name j).bytes, variable number (same_range j)) ∷ []))
 
-    scope_is : (next : Visible) → next ≡ with_inner now (name x).bytes (variable number (range x))
-        → scope_of next ≡ scope_of now ++ ((name x).bytes, variable number (range x)) ∷ []
-    scope_is next e = ap scope_of e ∙ sym (append_assoc now.0 now.1 (((name x).bytes, variable number (range x)) ∷ []))
+    scope_is : with_variables name range first xs start ≡ with_variables name range (number + 1) (drop (i + 1) xs) (now ++ (n.bytes, variable number r) ∷ [])
+    scope_is =
+        declared.scope ∙ ap (λ l. with_variables name range number l now) left
+        ∙ sym (λ j. with_variables name range (number + 1) (drop (i + 1) xs) (now ++ ((same_name j).bytes, variable number (same_range j)) ∷ []))
 
-    pub declared_next : (next : Visible) → as_new (name x) (scope_of now) ++ range_faults (range x) (name x).line ≡ []
-        → next ≡ with_inner now (name x).bytes (variable number (range x)) → HasDeclared xs (i + 1) first (number + 1) start next
+    pub declared_next : (next : Scope) → as_new n now ++ range_faults r n.line ≡ [] → next ≡ now ++ (n.bytes, variable number r) ∷ []
+        → HasDeclared xs (i + 1) first (number + 1) start next
     declared_next next none e = record {
       counted = let counted = declared.counted in omega arith;
       faults =
-          faults_are ∙ ap (λ l. l ++ faults_from (number + 1) (drop (i + 1) xs) (scope_of now ++ ((name x).bytes, variable number (range x)) ∷ [])) none
-          ∙ ap (faults_from (number + 1) (drop (i + 1) xs)) (sym (scope_is next e));
-      scope = declared.scope ∙ ap (λ l. scope_from number l (scope_of now)) left ∙ ap (scope_from (number + 1) (drop (i + 1) xs)) (sym (scope_is next e));
-      outer = ap (λ v. v.0) e ∙ declared.outer;
+          faults_are ∙ ap (λ l. l ++ variables_faults name range (number + 1) (drop (i + 1) xs) (now ++ (n.bytes, variable number r) ∷ [])) none
+          ∙ ap (variables_faults name range (number + 1) (drop (i + 1) xs)) (sym e);
+      scope = scope_is ∙ ap (with_variables name range (number + 1) (drop (i + 1) xs)) (sym e);
     }
 
-    pub declared_stops : (fault : NameFault) → IsReported (as_new (name x) (scope_of now) ++ range_faults (range x) (name x).line) fault
-        → IsReported (faults_from first xs (scope_of start)) fault
-    declared_stops fault h = subst (λ all. IsReported all fault) (sym faults_are) (stops (as_new (name x) (scope_of now) ++ range_faults (range x) (name x).line) _ fault h)
+    pub declared_stops : (fault : NameFault) → IsReported (as_new n now ++ range_faults r n.line) fault → IsReported (variables_faults name range first xs start) fault
+    declared_stops fault h = subst (λ all. IsReported all fault) (sym faults_are) (stops (as_new n now ++ range_faults r n.line) _ fault h)
 
-  module _ (xs : List A) (i first number : ℕ) (start now : Visible) (end : length xs ≤ i) (declared : HasDeclared xs i first number start now) where
-    pub declared_faults : faults_from first xs (scope_of start) ≡ []
-    declared_faults = declared.faults ∙ ap (λ l. faults_from number l (scope_of now)) (drop_all i xs end)
+  module _ (xs : List A) (i first number : ℕ) (start now : Scope) (end : length xs ≤ i) (declared : HasDeclared xs i first number start now) where
+    pub declared_faults : variables_faults name range first xs start ≡ []
+    declared_faults = declared.faults ∙ ap (λ l. variables_faults name range number l now) (drop_all i xs end)
 
-    pub declared_scope : scope_of now ≡ scope_from first xs (scope_of start)
-    declared_scope = sym (declared.scope ∙ ap (λ l. scope_from number l (scope_of now)) (drop_all i xs end))
+    pub declared_scope : now ≡ with_variables name range first xs start
+    declared_scope = sym (declared.scope ∙ ap (λ l. with_variables name range number l now) (drop_all i xs end))
 
--- ---- parameters and locals are such lists
-pub params_faults-from : (k : ℕ) (params : List Param) (scope : Scope) → params_faults k params scope ≡ faults_from (λ p. p.name) (λ p. p.range) k params scope
-params_faults-from k [] scope = refl
-params_faults-from k (p ∷ params) scope =
-    ap (λ l. as_new p.name scope ++ (range_faults p.range p.name.line ++ l)) (params_faults-from (k + 1) params (scope ++ (p.name.bytes, variable k p.range) ∷ []))
+  -- they come after what was there
+  pub variables_follow : (k : ℕ) (xs : List A) (scope : Scope) → (more : Scope) × (with_variables name range k xs scope ≡ scope ++ more)
+  variables_follow k [] scope = ([], sym (append-nil scope))
+  variables_follow k (x ∷ xs) scope =
+      let entry : List ℕ × Declared = ((name x).bytes, variable k (range x)) in
+      let rest = variables_follow (k + 1) xs (scope ++ entry ∷ []) in
+      (entry ∷ rest.0, rest.1 ∙ append_assoc scope (entry ∷ []) rest.0)
 
-pub with_params-from : (k : ℕ) (params : List Param) (scope : Scope) → with_params k params scope ≡ scope_from (λ p. p.name) (λ p. p.range) k params scope
-with_params-from k [] scope = refl
-with_params-from k (p ∷ params) scope = with_params-from (k + 1) params (scope ++ (p.name.bytes, variable k p.range) ∷ [])
-
-pub locals_faults-from : (k : ℕ) (locals : List Local) (scope : Scope) → locals_faults k locals scope ≡ faults_from (λ l. l.name) (λ l. l.range) k locals scope
-locals_faults-from k [] scope = refl
-locals_faults-from k (l ∷ locals) scope =
-    ap (λ more. as_new l.name scope ++ (range_faults l.range l.name.line ++ more)) (locals_faults-from (k + 1) locals (scope ++ (l.name.bytes, variable k l.range) ∷ []))
-
-pub with_locals-from : (k : ℕ) (locals : List Local) (scope : Scope) → with_locals k locals scope ≡ scope_from (λ l. l.name) (λ l. l.range) k locals scope
-with_locals-from k [] scope = refl
-with_locals-from k (l ∷ locals) scope = with_locals-from (k + 1) locals (scope ++ (l.name.bytes, variable k l.range) ∷ [])
+-- what was there before two lists of them is its first part
+pub left_again : {A B : Type 0} (name : A → Name) (range : A → Range) (name' : B → Name) (range' : B → Range) (k l : ℕ) (xs : List A) (ys : List B) (scope : Scope)
+    → take (length scope) (with_variables name' range' l ys (with_variables name range k xs scope)) ≡ scope
+left_again name range name' range' k l xs ys scope =
+    let first = variables_follow name range k xs scope in
+    let both = variables_follow name' range' l ys (with_variables name range k xs scope) in
+    ap (take (length scope)) (both.1 ∙ ap (λ s. s ++ both.0) first.1 ∙ append_assoc scope first.0 both.0) ∙ take-append_seam scope (first.0 ++ both.0)

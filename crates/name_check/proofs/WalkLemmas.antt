@@ -1,6 +1,6 @@
 -- Walks over parts of a source, one after another, and over a list of them.
 use Rattle.std.proofs.Common.{◌≡◌, ℕ, ◌+◌, ◌<◌, ◌≤◌, List, [], ◌∷◌, ◌++◌, length, map, take, drop, get_or, Result, Ok, Err, inr, refl, sym, ap, subst, ◌∙◌, append_assoc}
-use Rattle.std.specs.Prelude.{⊤}
+use Rattle.std.specs.Prelude.{⊤, IfErr}
 use Rattle.std.specs.List.{flat_map}
 use Rattle.std.specs.Result.{IsErrAnd}
 use Rattle.std.proofs.lemmas.List.{append-nil, drop_more, flat_map_more, take-append-drop, take_more, take_all}
@@ -9,8 +9,9 @@ use Rattle.std.proofs.lemmas.Grind.{flat_map-append}
 use Rattle.source_tree.specs.Scope.{Scope}
 use Rattle.source_tree.specs.declared.expression.Expr.{Expr}
 use Rattle.name_check.specs.declared.fault.NameFault.{NameFault}
+use Rattle.name_check.specs.declared.fault.NameFault.TheVariants.{NoMemory}
 use Rattle.name_check.specs.Names.{Faults, Loops, all_faults, expr_faults, exprs_faults}
-use Rattle.name_check.specs.Reported.{IsFirst, IsReported, Walks}
+use Rattle.name_check.specs.Reported.{IsFirst, IsReported, IsTie, Walks}
 use Rattle.name_check.specs.Ties.{Ties, all_ties}
 
 -- ---- one part after another
@@ -43,6 +44,21 @@ pub walks_on : (a b : List NameFault) (first second before middle after : List �
 walks_on a b first second before middle after (Ok done) walked walk =
     (ap (λ faults. faults ++ b) walked.0 ∙ walk.0, walk.1 ∙ ap (λ ties. ties ++ second) walked.1 ∙ append_assoc before first second)
 walks_on a b first second before middle after (Err fault) walked walk = stops_later a b fault walked.0 walk
+
+-- the same of what has no ties
+pub later_first : {A : Type 0} (a b : List NameFault) (result : Result A NameFault) → a ≡ [] → IsFirst b result → IsFirst (a ++ b) result
+later_first a b (Ok value) none h = ap (λ faults. faults ++ b) none ∙ h
+later_first a b (Err fault) none h = stops_later a b fault none h
+
+-- a name that is used as what it is
+pub used : (faults : List NameFault) (ties before after : List ℕ) (number : ℕ) → IsTie faults ties (Ok number) → after ≡ before ++ number ∷ [] → Walks faults ties before (Ok tt) after
+used faults ties before after number found put = (found.0, put ∙ ap (λ tied. before ++ tied) (sym found.1))
+
+-- a walk that wants memory at its end
+pub ends : (faults : List NameFault) (ties before after : List ℕ) (result : Result ⊤ NameFault) → faults ≡ [] → after ≡ before ++ ties → IfErr result (λ fault. fault ≡ NoMemory)
+    → Walks faults ties before result after
+ends faults ties before after (Ok done) none tied err = (none, tied)
+ends faults ties before after (Err fault) none tied err = subst (λ fs. IsReported fs fault) (sym none) err
 
 -- ---- a list of parts
 module _ {A : Type 0} (faults : A → List NameFault) (ties : A → List ℕ) where

@@ -1,5 +1,5 @@
 pub use Rattle.source_tree.specs.Numbers
+pub mod Held
 pub mod Names
 pub mod Reported
 pub mod Ties
-pub mod Visible

@@ -120,15 +120,18 @@ as_new name scope = where_broken (is_declared (lookup name.bytes scope)) (Twice 
 abbrev pub range_faults : Range → ℕ → List NameFault
 range_faults range line = where_broken (int_lt range.high range.low) (BadRange line)
 
+-- of parameters or locals, by their names and ranges
+abbrev pub variables_faults : {A : Type 0} → (A → SourceName) → (A → Range) → ℕ → List A → Scope → List NameFault
+variables_faults name range k [] scope = []
+variables_faults name range k (x ∷ xs) scope =
+    as_new (name x) scope ++
+    (range_faults (range x) (name x).line ++ variables_faults name range (k + 1) xs (scope ++ ((name x).bytes, variable k (range x)) ∷ []))
+
 abbrev pub params_faults : ℕ → List Param → Scope → List NameFault
-params_faults k [] scope = []
-params_faults k (p ∷ params) scope =
-    as_new p.name scope ++ (range_faults p.range p.name.line ++ params_faults (k + 1) params (scope ++ (p.name.bytes, variable k p.range) ∷ []))
+params_faults k params scope = variables_faults (λ p. p.name) (λ p. p.range) k params scope
 
 abbrev pub locals_faults : ℕ → List Local → Scope → List NameFault
-locals_faults k [] scope = []
-locals_faults k (l ∷ locals) scope =
-    as_new l.name scope ++ (range_faults l.range l.name.line ++ locals_faults (k + 1) locals (scope ++ (l.name.bytes, variable k l.range) ∷ []))
+locals_faults k locals scope = variables_faults (λ l. l.name) (λ l. l.range) k locals scope
 
 -- how many procedures there may be
 abbrev pub most_procedures : ℕ

@@ -29,7 +29,8 @@ impl Checked {
     /// For each use of a name in text order the number of its declaration. Declared names are numbered from 0 in text
     /// order: a procedure takes one number, and then its parameters and locals theirs. The variable of a `for` is a use.
     pub fn ties(&self) -> &[u32]
-        ensures { result.now ≡ ties_of self.now.program }
+        ensures ties { result.now ≡ ties_of self.now.program }
+        ensures below { All (λ tie. tie < program_names self.now.program) result.now }
     {
         self.ties.as_slice()
     }

@@ -1,16 +1,15 @@
-ghost use Rattle.std.specs.Prelude.{◌≡◌, ◌+◌, ◌<◌, ◌++◌, [], IfErr, IfOk, None, OnOk, length, map, nat_eq};
+ghost use Rattle.std.specs.Prelude.{◌≡◌, ◌+◌, ◌<◌, ◌∷◌, ◌++◌, [], IfErr, IfOk, None, OnOk, length, map, nat_eq};
 ghost use Rattle.plain_text.specs.Lookup.{lookup};
-ghost use Rattle.source_tree.specs.Scope.{inside, names_in, procedure, variable, with_declared, with_locals, with_params};
+ghost use Rattle.source_tree.specs.Scope.{inside, names_in, procedure, variable, with_declared, with_locals, with_params, with_variables};
 ghost use Rattle.name_check.specs.declared.fault.NameFault.TheVariants.{NoMemory, TooMany};
-ghost use Rattle.name_check.specs.Names.{all_faults, as_new, declaration_faults, locals_faults, most_procedures, params_faults, procedures_in, range_faults, statement_faults, where_broken};
+ghost use Rattle.name_check.specs.Names.{all_faults, as_new, declaration_faults, locals_faults, most_procedures, params_faults, procedures_in, range_faults, statement_faults, variables_faults, where_broken};
 ghost use Rattle.name_check.specs.Reported.{IsFirst, Walks};
 ghost use Rattle.name_check.specs.Ties.{all_ties, declaration_ties, statement_ties};
-ghost use Rattle.name_check.specs.Visible.{scope_of, with_inner, with_outer};
 
 use crate::fault::NameFault;
 use crate::statements::statements;
 use crate::symbols::{Symbol, Symbols};
-use source_tree::{Declaration, Local, Name, Param, Range, Statement};
+use source_tree::{Declaration, Local, Name, Param, Range, Statement, Variable};
 use sqlite_items::Items;
 use std::alloc::{AllocError, Global};
 
@@ -26,16 +25,15 @@ pub fn declaration(
     number: u32,
     procedures: u32,
 ) -> Result<(), NameFault>
-    requires outside { symbols.old.1 ≡ [] }
-    requires numbers { number + names_in d.now < 4294967296 }
-    ensures walk { Walks (declaration_faults number procedures d.now symbols.old.0) (declaration_ties number d.now symbols.old.0) ties.old result ties.new }
-    ensures declared { OnOk result (symbols.new ≡ (with_declared number d.now symbols.old.0, [])) }
+    requires { number + names_in d.now < 4294967296 }
+    ensures walk { Walks (declaration_faults number procedures d.now symbols.old) (declaration_ties number d.now symbols.old) ties.old result ties.new }
+    ensures declared { OnOk result (symbols.new ≡ with_declared number d.now symbols.old) }
 {
     match d {
         Declaration::Var { name, range, line } => {
             new_name(symbols, name)?;
             range_in_order(*range, *line)?;
-            symbols.declare_outer(
+            symbols.declare(
                 alloc,
                 name.bytes.as_slice(),
                 Symbol::Variable {
@@ -56,7 +54,7 @@ pub fn declaration(
                 return Err(NameFault::EmptyArray(name.line));
             }
             range_in_order(*range, *line)?;
-            symbols.declare_outer(
+            symbols.declare(
                 alloc,
                 name.bytes.as_slice(),
                 Symbol::Array {
@@ -83,8 +81,8 @@ pub fn declaration(
 
 /// Another procedure may be declared by a name, after so many procedures.
 fn procedure_heading(symbols: &Symbols, heading: &Name, procedures: u32) -> Result<(), NameFault>
-    ensures first { IsFirst (as_new heading.now (scope_of symbols.now) ++ where_broken (nat_eq procedures most_procedures) (TooMany heading.now.line)) result }
-    ensures new { OnOk result (lookup heading.now.bytes (scope_of symbols.now) ≡ None) }
+    ensures first { IsFirst (as_new heading.now symbols.now ++ where_broken (nat_eq procedures most_procedures) (TooMany heading.now.line)) result }
+    ensures new { OnOk result (lookup heading.now.bytes symbols.now ≡ None) }
 {
     new_name(symbols, heading)?;
     if procedures == MOST_PROCEDURES {
@@ -102,12 +100,12 @@ fn declare_procedure(
     params: &Items<Param>,
     number: u32,
 ) -> Result<(), NameFault>
-    requires { lookup name.now.bytes symbols.old.0 ≡ None }
-    ensures declared { OnOk result (symbols.new ≡ with_outer symbols.old name.now.bytes (procedure number (map (λ p. p.range) params.now))) }
+    requires { lookup name.now.bytes symbols.old ≡ None }
+    ensures declared { OnOk result (symbols.new ≡ symbols.old ++ (name.now.bytes, procedure number (map (λ p. p.range) params.now)) ∷ []) }
     ensures err { IfErr result (λ fault. fault ≡ NoMemory) }
 {
     let params = Items::from_vec(ranges(alloc, params.as_slice())?);
-    symbols.declare_outer(
+    symbols.declare(
         alloc,
         name.bytes.as_slice(),
         Symbol::Procedure { number, params },
@@ -125,58 +123,61 @@ fn procedure_inside(
     body: &Items<Statement>,
     number: u32,
 ) -> Result<(), NameFault>
-    requires outside { symbols.old.1 ≡ [] }
-    requires numbers { number + (1 + length params.now + length locals.now) < 4294967296 }
-    ensures walk { let scope = symbols.old.0 in
+    requires { number + (1 + length params.now + length locals.now) < 4294967296 }
+    ensures walk { let scope = symbols.old in
         Walks (params_faults (number + 1) params.now scope ++ (locals_faults (number + 1 + length params.now) locals.now (with_params (number + 1) params.now scope) ++
         all_faults (map statement_faults body.now) (inside number params.now locals.now scope) []))
         (all_ties (map statement_ties body.now) (inside number params.now locals.now scope)) ties.old result ties.new }
-    ensures left { OnOk result (symbols.new ≡ (symbols.old.0, [])) }
+    ensures left { OnOk result (symbols.new ≡ symbols.old) }
 {
+    let outside = symbols.len();
     let first = number + 1;
-    declare_params(alloc, symbols, params, first)?;
-    declare_locals(alloc, symbols, locals, first + params.len() as u32)?;
+    declare_inside(
+        alloc,
+        symbols,
+        params,
+        locals,
+        first,
+        first + params.len() as u32,
+    )?;
     let mut loops = Items::new(alloc);
     statements(symbols, &mut loops, ties, body)?;
-    symbols.leave();
+    symbols.truncate(outside);
     Ok(())
 }
 
-/// Declares the parameters of a procedure, from a number on.
-fn declare_params(
+/// Declares the parameters of a procedure from one number on, and its locals from another on.
+fn declare_inside(
     alloc: Global,
     symbols: &mut Symbols,
     params: &Items<Param>,
-    first: u32,
-) -> Result<(), NameFault>
-    requires { first + length params.now < 4294967296 }
-    ensures first { IsFirst (params_faults first params.now (scope_of symbols.old)) result }
-    ensures scope { OnOk result (scope_of symbols.new ≡ with_params first params.now (scope_of symbols.old)) }
-    ensures outer { OnOk result (symbols.new.0 ≡ symbols.old.0) }
-{
-    let mut number = first;
-    for p in params.as_slice() {
-        declare(alloc, symbols, &p.name, p.range, number)?;
-        number += 1;
-    }
-    Ok(())
-}
-
-/// Declares the locals of a procedure, from a number on.
-fn declare_locals(
-    alloc: Global,
-    symbols: &mut Symbols,
     locals: &Items<Local>,
     first: u32,
+    second: u32,
 ) -> Result<(), NameFault>
-    requires { first + length locals.now < 4294967296 }
-    ensures first { IsFirst (locals_faults first locals.now (scope_of symbols.old)) result }
-    ensures scope { OnOk result (scope_of symbols.new ≡ with_locals first locals.now (scope_of symbols.old)) }
-    ensures outer { OnOk result (symbols.new.0 ≡ symbols.old.0) }
+    requires after_params { second ≡ first + length params.now }
+    requires numbers { second + length locals.now < 4294967296 }
+    ensures first { IsFirst (params_faults first params.now symbols.old ++ locals_faults (first + length params.now) locals.now (with_params first params.now symbols.old)) result }
+    ensures scope { OnOk result (symbols.new ≡ with_locals (first + length params.now) locals.now (with_params first params.now symbols.old)) }
+{
+    declare_all(alloc, symbols, params, first)?;
+    declare_all(alloc, symbols, locals, second)
+}
+
+/// Declares the parameters or the locals of a procedure, from a number on.
+fn declare_all<V: Variable>(
+    alloc: Global,
+    symbols: &mut Symbols,
+    variables: &Items<V>,
+    first: u32,
+) -> Result<(), NameFault>
+    requires { first + length variables.now < 4294967296 }
+    ensures first { IsFirst (variables_faults V.name_of V.range_of first variables.now symbols.old) result }
+    ensures scope { OnOk result (symbols.new ≡ with_variables V.name_of V.range_of first variables.now symbols.old) }
 {
     let mut number = first;
-    for l in locals.as_slice() {
-        declare(alloc, symbols, &l.name, l.range, number)?;
+    for v in variables.as_slice() {
+        declare(alloc, symbols, v.name(), v.range(), number)?;
         number += 1;
     }
     Ok(())
@@ -190,12 +191,12 @@ fn declare(
     range: Range,
     number: u32,
 ) -> Result<(), NameFault>
-    ensures first { IsFirst (as_new name.now (scope_of symbols.old) ++ range_faults range name.now.line) result }
-    ensures declared { OnOk result (symbols.new ≡ with_inner symbols.old name.now.bytes (variable number range)) }
+    ensures first { IsFirst (as_new name.now symbols.old ++ range_faults range name.now.line) result }
+    ensures declared { OnOk result (symbols.new ≡ symbols.old ++ (name.now.bytes, variable number range) ∷ []) }
 {
     new_name(symbols, name)?;
     range_in_order(range, name.line)?;
-    symbols.declare_inner(
+    symbols.declare(
         alloc,
         name.bytes.as_slice(),
         Symbol::Variable { number, range },
@@ -205,8 +206,8 @@ fn declare(
 
 /// A name that is declared isn't visible yet.
 fn new_name(symbols: &Symbols, name: &Name) -> Result<(), NameFault>
-    ensures first { IsFirst (as_new name.now (scope_of symbols.now)) result }
-    ensures new { OnOk result (lookup name.now.bytes (scope_of symbols.now) ≡ None) }
+    ensures first { IsFirst (as_new name.now symbols.now) result }
+    ensures new { OnOk result (lookup name.now.bytes symbols.now ≡ None) }
 {
     match symbols.get(name.bytes.as_slice()) {
         Some(_) => Err(NameFault::Twice(name.line)),

@@ -1,7 +1,6 @@
 ghost use Rattle.name_check.specs.Names.{condition_faults, expr_faults, exprs_faults};
 ghost use Rattle.name_check.specs.Reported.{Walks};
 ghost use Rattle.name_check.specs.Ties.{all_ties, condition_ties, expr_ties};
-ghost use Rattle.name_check.specs.Visible.{scope_of};
 ghost use Rattle.std.specs.Prelude.{map};
 
 use crate::fault::NameFault;
@@ -12,7 +11,7 @@ use sqlite_items::Items;
 
 /// Ties the names in an expression.
 pub fn expression(symbols: &Symbols, ties: &mut Items<u32>, e: &Expr) -> Result<(), NameFault>
-    ensures { Walks (expr_faults e.now (scope_of symbols.now)) (expr_ties e.now (scope_of symbols.now)) ties.old result ties.new }
+    ensures { Walks (expr_faults e.now symbols.now) (expr_ties e.now symbols.now) ties.old result ties.new }
 {
     match e {
         Expr::Number { .. } => Ok(()),
@@ -38,7 +37,7 @@ pub fn expressions(
     ties: &mut Items<u32>,
     es: &Items<Expr>,
 ) -> Result<(), NameFault>
-    ensures { Walks (exprs_faults es.now (scope_of symbols.now)) (all_ties (map expr_ties es.now) (scope_of symbols.now)) ties.old result ties.new }
+    ensures { Walks (exprs_faults es.now symbols.now) (all_ties (map expr_ties es.now) symbols.now) ties.old result ties.new }
 {
     for e in es.as_slice() {
         expression(symbols, ties, e)?;
@@ -52,7 +51,7 @@ pub fn condition(
     ties: &mut Items<u32>,
     condition: &Condition,
 ) -> Result<(), NameFault>
-    ensures { Walks (condition_faults condition.now (scope_of symbols.now)) (condition_ties condition.now (scope_of symbols.now)) ties.old result ties.new }
+    ensures { Walks (condition_faults condition.now symbols.now) (condition_ties condition.now symbols.now) ties.old result ties.new }
 {
     expression(symbols, ties, &condition.left)?;
     expression(symbols, ties, &condition.right)

@@ -1,9 +1,8 @@
-ghost use Rattle.std.specs.Prelude.{◌≡◌, ◌++◌, OnOk, map};
+ghost use Rattle.std.specs.Prelude.{◌≡◌, ◌++◌, OnOk, length, map};
 ghost use Rattle.plain_text.specs.Lookup.{lookup};
-ghost use Rattle.name_check.specs.Names.{all_faults, as_assigned, expr_faults, place_faults, statement_faults, with_loop};
+ghost use Rattle.name_check.specs.Names.{all_faults, as_assigned, as_procedure, expr_faults, exprs_faults, place_faults, statement_faults, with_loop};
 ghost use Rattle.name_check.specs.Reported.{Walks};
 ghost use Rattle.name_check.specs.Ties.{all_ties, expr_ties, name_ties, place_ties, statement_ties};
-ghost use Rattle.name_check.specs.Visible.{scope_of};
 
 use crate::expressions::{condition, expression, expressions};
 use crate::fault::NameFault;
@@ -20,7 +19,7 @@ pub fn statements(
     ties: &mut Items<u32>,
     statements: &Items<Statement>,
 ) -> Result<(), NameFault>
-    ensures walk { Walks (all_faults (map statement_faults statements.now) (scope_of symbols.now) loops.old) (all_ties (map statement_ties statements.now) (scope_of symbols.now)) ties.old result ties.new }
+    ensures walk { Walks (all_faults (map statement_faults statements.now) symbols.now loops.old) (all_ties (map statement_ties statements.now) symbols.now) ties.old result ties.new }
     ensures loops { OnOk result (loops.new ≡ loops.old) }
 {
     for s in statements.as_slice() {
@@ -37,7 +36,7 @@ fn statement(
     ties: &mut Items<u32>,
     s: &Statement,
 ) -> Result<(), NameFault>
-    ensures walk { Walks (statement_faults s.now (scope_of symbols.now) loops.old) (statement_ties s.now (scope_of symbols.now)) ties.old result ties.new }
+    ensures walk { Walks (statement_faults s.now symbols.now loops.old) (statement_ties s.now symbols.now) ties.old result ties.new }
     ensures loops { OnOk result (loops.new ≡ loops.old) }
 {
     match s {
@@ -45,10 +44,7 @@ fn statement(
             place: target,
             value,
             ..
-        } => {
-            place(symbols, loops, ties, target)?;
-            expression(symbols, ties, value)
-        }
+        } => assignment(symbols, loops, ties, target, value),
         Statement::Print { value, .. } => expression(symbols, ties, value),
         Statement::Read { place: target, .. } => place(symbols, loops, ties, target),
         Statement::If {
@@ -85,11 +81,36 @@ fn statement(
             name,
             arguments,
             ..
-        } => {
-            ties.push(procedure(symbols, name, arguments.len())?)?;
-            expressions(symbols, ties, arguments)
-        }
+        } => call(symbols, ties, name, arguments),
     }
+}
+
+/// Ties the names in a place and in the value that is put there.
+fn assignment(
+    symbols: &Symbols,
+    loops: &Items<u32>,
+    ties: &mut Items<u32>,
+    target: &Place,
+    value: &Expr,
+) -> Result<(), NameFault>
+    ensures { Walks (place_faults target.now symbols.now loops.now ++ expr_faults value.now symbols.now) (place_ties target.now symbols.now ++ expr_ties value.now symbols.now) ties.old result ties.new }
+{
+    place(symbols, loops, ties, target)?;
+    expression(symbols, ties, value)
+}
+
+/// Ties the name of a procedure that is called, and then the names in the arguments.
+fn call(
+    symbols: &Symbols,
+    ties: &mut Items<u32>,
+    name: &Name,
+    arguments: &Items<Expr>,
+) -> Result<(), NameFault>
+    ensures { Walks (as_procedure (lookup name.now.bytes symbols.now) (length arguments.now) name.now.line ++ exprs_faults arguments.now symbols.now)
+        (name_ties name.now symbols.now ++ all_ties (map expr_ties arguments.now) symbols.now) ties.old result ties.new }
+{
+    ties.push(procedure(symbols, name, arguments.len())?)?;
+    expressions(symbols, ties, arguments)
 }
 
 /// Ties the name of a place that is set, and the names in its index.
@@ -99,7 +120,7 @@ fn place(
     ties: &mut Items<u32>,
     place: &Place,
 ) -> Result<(), NameFault>
-    ensures { Walks (place_faults place.now (scope_of symbols.now) loops.now) (place_ties place.now (scope_of symbols.now)) ties.old result ties.new }
+    ensures { Walks (place_faults place.now symbols.now loops.now) (place_ties place.now symbols.now) ties.old result ties.new }
 {
     match place {
         Place::Name(name) => {
@@ -122,10 +143,10 @@ fn for_head(
     first: &Expr,
     last: &Expr,
 ) -> Result<(), NameFault>
-    ensures walk { let scope = scope_of symbols.now in
+    ensures walk { let scope = symbols.now in
         Walks (as_assigned (lookup name.now.bytes scope) name.now.line loops.old ++ (expr_faults first.now scope ++ expr_faults last.now scope))
         (name_ties name.now scope ++ (expr_ties first.now scope ++ expr_ties last.now scope)) ties.old result ties.new }
-    ensures loops { OnOk result (loops.new ≡ with_loop (lookup name.now.bytes (scope_of symbols.now)) loops.old) }
+    ensures loops { OnOk result (loops.new ≡ with_loop (lookup name.now.bytes symbols.now) loops.old) }
 {
     let number = assigned(symbols, name, loops)?;
     ties.push(number)?;

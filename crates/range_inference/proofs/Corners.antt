@@ -1,5 +1,5 @@
 -- Products of the ends of two intervals, as words of the program.
-use Rattle.std.proofs.Common.{◌≡◌, refl, sym, ap, ◌∙◌, subst, arith, ℤ, pos, neg_ℤ, ◌^◌, ◌*ℤ◌, ◌≤ℤ◌, ◌<ℤ◌, Option, Some, None, FitsSigned, to_z, of_z}
+use Rattle.std.proofs.Common.{◌≡◌, sym, ap, ◌∙◌, subst, arith, ℤ, ◌*ℤ◌, ◌≤ℤ◌, Option, None, FitsSigned, to_z, of_z}
 use Rattle.std.specs.Prelude.{IfNone}
 use Rattle.std.specs.Int.{w128, int_min, int_max}
 use Rattle.std.proofs.lemmas.Int.{ints, clamps, to_z-of_z}
@@ -24,14 +24,16 @@ corners_fit l1 h1 l2 h2 f = of (l1 *ℤ l2) (l1 *ℤ h2) (h1 *ℤ l2) (h1 *ℤ h
       fits_between d _ _ f (omega (arith, ints, clamps)) (omega (arith, ints, clamps)),
     )
 
-pub no_interval : (r : Option Interval) (P : Type 0) → r ≡ None → ¬ P → IfNone r (¬ P)
-no_interval r P e h = subst (λ o. IfNone o (¬ P)) (sym e) h
-
 -- a product of two words of the program is refused only where it doesn't fit
-pub refused : (x y : ℤ) → FitsSigned w128 x → FitsSigned w128 y → ¬ (FitsSigned w128 (to_z w128 (of_z w128 x) *ℤ to_z w128 (of_z w128 y))) → ¬ (FitsSigned w128 (x *ℤ y))
+refused : (x y : ℤ) → FitsSigned w128 x → FitsSigned w128 y → ¬ (FitsSigned w128 (to_z w128 (of_z w128 x) *ℤ to_z w128 (of_z w128 y))) → ¬ (FitsSigned w128 (x *ℤ y))
 refused x y f g h k =
     h (subst (λ a. FitsSigned w128 (a *ℤ to_z w128 (of_z w128 y))) (sym (to_z-of_z w128 x f))
     (subst (λ b. FitsSigned w128 (x *ℤ b)) (sym (to_z-of_z w128 y g)) k))
+
+-- there is no interval where one of the products that must fit is refused
+pub corner_refused : (x y : ℤ) (r : Option Interval) (P : Type 0) → FitsSigned w128 x → FitsSigned w128 y → r ≡ None
+    → ¬ (FitsSigned w128 (to_z w128 (of_z w128 x) *ℤ to_z w128 (of_z w128 y))) → (P → FitsSigned w128 (x *ℤ y)) → IfNone r (¬ P)
+corner_refused x y r P f g e h fit = subst (λ o. IfNone o (¬ P)) (sym e) (λ p. refused x y f g h (fit p))
 
 -- a product that fits is the product of the integers
 pub product_is : (v x y : ℤ) → FitsSigned w128 x → FitsSigned w128 y

@@ -1,41 +1,38 @@
 -- Declarations, parameters and locals, one more at a time.
-use Rattle.std.proofs.Common.{◌≡◌, ℕ, zero, suc, ◌+◌, ◌<◌, List, [], ◌∷◌, ◌++◌, length, take, get_or, refl, sym, ap, ◌∙◌, subst, arith, append_assoc, append-nil, add-one}
+use Rattle.std.proofs.Common.{◌≡◌, ℕ, zero, suc, ◌+◌, ◌<◌, List, [], ◌∷◌, ◌++◌, length, take, get_or, refl, sym, ap, ◌∙◌, subst, arith, append_assoc, append-nil}
 use Rattle.plain_text.specs.Lookup.{Named, lookup}
-use Rattle.source_tree.specs.Scope.{Scope, variable, with_params, with_locals, with_declared, names_in, with_all_declared}
+use Rattle.source_tree.specs.Scope.{Scope, variable, with_variables, inside, with_declared, names_in, with_all_declared, range_at}
+use Rattle.source_tree.specs.declared.name.Name.{Name}
 use Rattle.source_tree.specs.declared.name.Range.{Range}
 use Rattle.source_tree.specs.declared.declaration.Param.{Param}
 use Rattle.source_tree.specs.declared.declaration.Local.{Local}
 use Rattle.source_tree.specs.declared.declaration.Declaration.{Declaration}
-use Rattle.range_inference.specs.Demands.{Demand, params_demands, locals_demands, declaration_demands, declarations_demands, node_intervals}
-use Rattle.range_inference.specs.Table.{Mirrors}
-use Rattle.range_inference.proofs.Judging.{nodes-append}
-use Rattle.range_inference.proofs.TableLemmas.{mirrors_more}
+use Rattle.source_tree.specs.declared.declaration.Program.{Program}
+use Rattle.source_tree.specs.declared.statement.Statement.{Statement}
+use Rattle.range_inference.specs.Demands.{Demand, variables_demands, params_demands, locals_demands, statements_demands, procedure_demands, declaration_demands, declarations_demands, demands_of, node_intervals}
+use Rattle.range_inference.specs.Table.{Mirrors, range_in}
+use Rattle.range_inference.proofs.Judging.{Two, Three, nodes-append}
+use Rattle.range_inference.proofs.TableLemmas.{mirrored, mirrors_more}
 
-with_params-append : (k : ℕ) (xs : List Param) (p : Param) (scope : Scope)
-    → (n : ℕ) × (with_params k (xs ++ p ∷ []) scope ≡ with_params k xs scope ++ (p.name.bytes, variable n p.range) ∷ [])
-with_params-append k [] p scope = (k, refl)
-with_params-append k (q ∷ xs) p scope = with_params-append (k + 1) xs p (scope ++ (q.name.bytes, variable k q.range) ∷ [])
+module _ {A : Type 0} (name : A → Name) (range : A → Range) where
+  with_variables-append : (k : ℕ) (xs : List A) (x : A) (scope : Scope)
+      → (n : ℕ) × (with_variables name range k (xs ++ x ∷ []) scope ≡ with_variables name range k xs scope ++ ((name x).bytes, variable n (range x)) ∷ [])
+  with_variables-append k [] x scope = (k, refl)
+  with_variables-append k (y ∷ xs) x scope = with_variables-append (k + 1) xs x (scope ++ ((name y).bytes, variable k (range y)) ∷ [])
 
-with_locals-append : (k : ℕ) (xs : List Local) (l : Local) (scope : Scope)
-    → (n : ℕ) × (with_locals k (xs ++ l ∷ []) scope ≡ with_locals k xs scope ++ (l.name.bytes, variable n l.range) ∷ [])
-with_locals-append k [] l scope = (k, refl)
-with_locals-append k (q ∷ xs) l scope = with_locals-append (k + 1) xs l (scope ++ (q.name.bytes, variable k q.range) ∷ [])
+  -- one more, by its name n and its range r
+  pub variables_mirror : (before after : Named Range) (k : ℕ) (all xs : List A) (x : A) (scope : Scope) (n : Name) (r : Range) → n ≡ name x → r ≡ range x → all ≡ xs ++ x ∷ []
+      → Mirrors before (with_variables name range k xs scope) → ((y : List ℕ) → lookup y after ≡ lookup y (before ++ (n.bytes, r) ∷ []))
+      → Mirrors after (with_variables name range k all scope)
+  variables_mirror before after k all xs x scope n r same_name same_range is h more =
+      let one = with_variables-append k xs x scope in
+      subst (λ (s : Scope). Mirrors after s) (sym (ap (λ l. with_variables name range k l scope) is ∙ one.1))
+      (mirrors_more before after (with_variables name range k xs scope) (name x).bytes (range x) (variable one.0 (range x)) refl h
+      (λ y. more y ∙ (λ j. lookup y (before ++ ((same_name j).bytes, same_range j) ∷ []))))
 
-pub params_mirror : (before after : Named Range) (k : ℕ) (all xs : List Param) (p : Param) (scope : Scope) → all ≡ xs ++ p ∷ []
-    → Mirrors before (with_params k xs scope) → ((x : List ℕ) → lookup x after ≡ lookup x (before ++ (p.name.bytes, p.range) ∷ []))
-    → Mirrors after (with_params k all scope)
-params_mirror before after k all xs p scope is h more =
-    let one = with_params-append k xs p scope in
-    subst (λ (s : Scope). Mirrors after s) (sym (ap (λ l. with_params k l scope) is ∙ one.1))
-    (mirrors_more before after (with_params k xs scope) p.name.bytes p.range (variable one.0 p.range) refl h more)
-
-pub locals_mirror : (before after : Named Range) (k : ℕ) (all xs : List Local) (l : Local) (scope : Scope) → all ≡ xs ++ l ∷ []
-    → Mirrors before (with_locals k xs scope) → ((x : List ℕ) → lookup x after ≡ lookup x (before ++ (l.name.bytes, l.range) ∷ []))
-    → Mirrors after (with_locals k all scope)
-locals_mirror before after k all xs l scope is h more =
-    let one = with_locals-append k xs l scope in
-    subst (λ (s : Scope). Mirrors after s) (sym (ap (λ m. with_locals k m scope) is ∙ one.1))
-    (mirrors_more before after (with_locals k xs scope) l.name.bytes l.range (variable one.0 l.range) refl h more)
+  pub variables_have_no_nodes : (xs : List A) → node_intervals (variables_demands name range xs) ≡ []
+  variables_have_no_nodes [] = refl
+  variables_have_no_nodes (x ∷ xs) = variables_have_no_nodes xs
 
 -- ---- declaration i
 pub record At (k : ℕ) (ds : List Declaration) (d : Declaration) (i : ℕ) (scope : Scope) : Type 0 where
@@ -70,15 +67,36 @@ at_declaration k (x ∷ ds) d (suc i) scope h is =
       names = a.names;
     }
 
--- ---- ranges have no nodes
-pub params_have_no_nodes : (params : List Param) → node_intervals (params_demands params) ≡ []
-params_have_no_nodes [] = refl
-params_have_no_nodes (p ∷ params) = params_have_no_nodes params
-
-pub locals_have_no_nodes : (locals : List Local) → node_intervals (locals_demands locals) ≡ []
-locals_have_no_nodes [] = refl
-locals_have_no_nodes (l ∷ locals) = locals_have_no_nodes locals
-
 pub nodes_behind : (a b d : List Demand) → node_intervals a ≡ [] → node_intervals b ≡ [] → node_intervals d ≡ node_intervals (a ++ (b ++ d))
 nodes_behind a b d h k =
     sym (nodes-append a (b ++ d) ∙ ap (λ l. l ++ node_intervals (b ++ d)) h ∙ nodes-append b d ∙ ap (λ l. l ++ node_intervals d) k)
+
+-- ---- a procedure, whose inside has the ranges of a table
+module _ (k : ℕ) (own : List Param) (inner : List Local) (body : List Statement) (scope : Scope) where
+  abbrev pub procedure_parts : Three (procedure_demands k own inner body scope)
+  procedure_parts = record { one = params_demands own; two = locals_demands inner; three = statements_demands body (range_at (inside k own inner scope)); is = refl }
+
+  abbrev pub procedure_parts_in : (table : Named Range) → Mirrors table (inside k own inner scope) → Three (procedure_demands k own inner body scope)
+  procedure_parts_in table names = record {
+    one = params_demands own;
+    two = locals_demands inner;
+    three = statements_demands body (range_in table);
+    is = ap (λ ranges. params_demands own ++ (locals_demands inner ++ statements_demands body ranges)) (sym (mirrored table (inside k own inner scope) names));
+  }
+
+-- ---- a program
+abbrev pub program_parts : (program : Program) → Two (demands_of program)
+program_parts program = record {
+  one = declarations_demands 0 program.declarations [];
+  two = statements_demands program.statements (range_at (with_all_declared 0 program.declarations []));
+  is = refl;
+}
+
+abbrev pub program_parts_in : (program : Program) (table : Named Range) → Mirrors table (with_all_declared 0 program.declarations []) → Two (demands_of program)
+program_parts_in program table names =
+    let one = declarations_demands 0 program.declarations [] in
+    record {
+      one = one;
+      two = statements_demands program.statements (range_in table);
+      is = ap (λ ranges. one ++ statements_demands program.statements ranges) (sym (mirrored table (with_all_declared 0 program.declarations []) names));
+    }

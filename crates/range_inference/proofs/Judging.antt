@@ -1,5 +1,5 @@
 -- What walks over parts of a source make of the whole: the first that is too wide, and the intervals.
-use Rattle.std.proofs.Common.{◌≡◌, ℕ, zero, suc, ◌+◌, ◌≤◌, ◌<◌, ℤ, List, [], ◌∷◌, ◌++◌, length, take, get_or, refl, sym, ap, ◌∙◌, subst, arith, append_assoc, append-nil, add-one, Bool, true, false, Result, Ok, Err}
+use Rattle.std.proofs.Common.{◌≡◌, ℕ, zero, suc, ◌+◌, ◌≤◌, ◌<◌, ℤ, List, [], ◌∷◌, ◌++◌, length, take, get_or, refl, sym, ap, ◌∙◌, subst, arith, append_assoc, append-nil, add-one, Result, Ok, Err}
 use Rattle.std.specs.Prelude.{if◌then◌else◌, ⊤, OnOk, IfOk}
 use Rattle.std.specs.List.{flat_map}
 use Rattle.std.specs.Result.{IsErrAnd}
@@ -26,6 +26,24 @@ first-append : (a b : List ℕ) (fault : RangeFault) → IsFirst a fault → IsF
 first-append a b (TooWide line) h = (h.0 ++ b, ap (λ l. l ++ b) h.1)
 first-append a b NoMemory h = tt
 
+-- ---- a whole in parts, one after another
+pub record Two (whole : List Demand) : Type 0 where
+  pub one : List Demand
+  pub two : List Demand
+  pub is : whole ≡ one ++ two
+
+pub record Three (whole : List Demand) : Type 0 where
+  pub one : List Demand
+  pub two : List Demand
+  pub three : List Demand
+  pub is : whole ≡ one ++ (two ++ three)
+
+abbrev pub parted_first : {whole : List Demand} → Three whole → Two whole
+parted_first p = record { one = p.one; two = p.two ++ p.three; is = p.is }
+
+abbrev pub parted_rest : {whole : List Demand} (p : Three whole) → Two (p.two ++ p.three)
+parted_rest p = record { one = p.two; two = p.three; is = refl }
+
 module _ (bound : ℤ) where
   pub wide-append : (a b : List Demand) → wide_lines bound (a ++ b) ≡ wide_lines bound a ++ wide_lines bound b
   wide-append a b = flat-append (λ d. if is_within_bound bound (demanded d) then [] else line_of d ∷ []) a b
@@ -42,35 +60,35 @@ module _ (bound : ℤ) where
   told demands fault (Ok x) first same = absurd same
   told demands fault (Err own) first same = subst (λ f. IsFirst (wide_lines bound demands) f) (sym same) first
 
-  -- the first part
-  pub first_fails : {A : Type 0} (whole part after : List Demand) (fault : RangeFault) (result : Result A RangeFault)
-      → whole ≡ part ++ after → IsFirst (wide_lines bound part) fault → IsErrAnd result (λ own. own ≡ fault) → IsJudged bound whole result
-  first_fails whole part after fault result is first same =
+  -- the first of two parts
+  pub first_fails : {A : Type 0} {whole : List Demand} (p : Two whole) (fault : RangeFault) (result : Result A RangeFault)
+      → IsFirst (wide_lines bound p.one) fault → IsErrAnd result (λ own. own ≡ fault) → IsJudged bound whole result
+  first_fails {A} {whole} p fault result first same =
       told whole fault result
-      (subst (λ l. IsFirst l fault) (sym (ap (wide_lines bound) is ∙ wide-append part after)) (first-append (wide_lines bound part) (wide_lines bound after) fault first)) same
+      (subst (λ l. IsFirst l fault) (sym (ap (wide_lines bound) p.is ∙ wide-append p.one p.two)) (first-append (wide_lines bound p.one) (wide_lines bound p.two) fault first)) same
 
-  -- a part behind one of which nothing is too wide
-  pub next_fails : {A : Type 0} (whole before part after : List Demand) (fault : RangeFault) (result : Result A RangeFault)
-      → whole ≡ before ++ (part ++ after) → wide_lines bound before ≡ [] → IsFirst (wide_lines bound part) fault
-      → IsErrAnd result (λ own. own ≡ fault) → IsJudged bound whole result
-  next_fails whole before part after fault result is none first same =
-      told whole fault result
-      (subst (λ l. IsFirst l fault) (sym (ap (wide_lines bound) is ∙ none_then before (part ++ after) none ∙ wide-append part after))
-      (first-append (wide_lines bound part) (wide_lines bound after) fault first)) same
+  -- parts of which nothing is too wide
+  pub none_two : {whole : List Demand} (p : Two whole) → wide_lines bound p.one ≡ [] → wide_lines bound p.two ≡ [] → wide_lines bound whole ≡ []
+  none_two p one two = ap (wide_lines bound) p.is ∙ none_both p.one p.two one two
 
-  -- the last part
-  pub last_fails : {A : Type 0} (whole before part : List Demand) (fault : RangeFault) (result : Result A RangeFault)
-      → whole ≡ before ++ part → wide_lines bound before ≡ [] → IsFirst (wide_lines bound part) fault
-      → IsErrAnd result (λ own. own ≡ fault) → IsJudged bound whole result
-  last_fails whole before part fault result is none first same =
-      told whole fault result (subst (λ l. IsFirst l fault) (sym (ap (wide_lines bound) is ∙ none_then before part none)) first) same
+  pub none_three : {whole : List Demand} (p : Three whole) → wide_lines bound p.one ≡ [] → wide_lines bound p.two ≡ [] → wide_lines bound p.three ≡ [] → wide_lines bound whole ≡ []
+  none_three p one two three = none_two (parted_first p) one (none_two (parted_rest p) two three)
 
   -- what is judged behind a part of which nothing is too wide
-  pub judged_last : {A : Type 0} (whole before part : List Demand) (result : Result A RangeFault)
-      → whole ≡ before ++ part → wide_lines bound before ≡ [] → IsJudged bound part result → IsJudged bound whole result
-  judged_last whole before part (Ok x) is none h = ap (wide_lines bound) is ∙ none_both before part none h
-  judged_last whole before part (Err fault) is none h =
-      subst (λ l. IsFirst l fault) (sym (ap (wide_lines bound) is ∙ none_then before part none)) h
+  pub judged_last : {A : Type 0} {whole : List Demand} (p : Two whole) (result : Result A RangeFault)
+      → wide_lines bound p.one ≡ [] → IsJudged bound p.two result → IsJudged bound whole result
+  judged_last p (Ok x) none h = none_two p none h
+  judged_last p (Err fault) none h = subst (λ l. IsFirst l fault) (sym (ap (wide_lines bound) p.is ∙ none_then p.one p.two none)) h
+
+  -- the second of three parts
+  pub next_fails : {A : Type 0} {whole : List Demand} (p : Three whole) (fault : RangeFault) (result : Result A RangeFault)
+      → wide_lines bound p.one ≡ [] → IsFirst (wide_lines bound p.two) fault → IsErrAnd result (λ own. own ≡ fault) → IsJudged bound whole result
+  next_fails p fault result none first same = judged_last (parted_first p) result none (first_fails (parted_rest p) fault result first same)
+
+  -- the last of three parts
+  pub judged_third : {A : Type 0} {whole : List Demand} (p : Three whole) (result : Result A RangeFault)
+      → wide_lines bound p.one ≡ [] → wide_lines bound p.two ≡ [] → IsJudged bound p.three result → IsJudged bound whole result
+  judged_third p result none after h = judged_last (parted_first p) result none (judged_last (parted_rest p) result after h)
 
   -- a demand that is required
   pub required : (d : Demand) (i : Interval) (line : ℕ) (result : Result ⊤ RangeFault) → i ≡ demanded d → line_of d ≡ line
@@ -124,7 +142,8 @@ module _ (bound : ℤ) where
       → IsFirst (wide_lines bound (f x)) fault → IsErrAnd result (λ own. own ≡ fault) → IsJudged bound (flat_map f xs) result
   member_fails f xs x i fault result h is none first same =
       let r = parted f xs x i h is in
-      next_fails (flat_map f xs) (flat_map f (take i xs)) (f x) r.0 fault result r.1 none first same
+      let p : Three (flat_map f xs) = record { one = flat_map f (take i xs); two = f x; three = r.0; is = r.1 } in
+      next_fails p fault result none first same
 
   pub member_done : {X : Type 0} (f : X → List Demand) (xs : List X) (x : X) (i : ℕ) (start now next : List Interval)
       → i < length xs → x ≡ get_or xs i x → Done (flat_map f (take i xs)) start now
@@ -154,14 +173,13 @@ pub on_ok_more : {A E : Type 0} (result : Result A E) (P Q : Type 0) → OnOk re
 on_ok_more (Ok x) P Q h k = k h
 on_ok_more (Err e) P Q h k = tt
 
--- ---- intervals of two parts, one after another
-pub put_two : (whole a b : List Demand) (start now next : List Interval) → whole ≡ a ++ b
-    → now ≡ start ++ node_intervals a → next ≡ now ++ node_intervals b → next ≡ start ++ node_intervals whole
-put_two whole a b start now next is one two =
-    two ∙ ap (λ l. l ++ node_intervals b) one ∙ append_assoc start (node_intervals a) (node_intervals b)
-    ∙ ap (λ l. start ++ l) (sym (nodes-append a b)) ∙ ap (λ l. start ++ node_intervals l) (sym is)
+-- ---- the intervals of parts
+pub put_two : {whole : List Demand} (p : Two whole) (start now next : List Interval)
+    → now ≡ start ++ node_intervals p.one → next ≡ now ++ node_intervals p.two → next ≡ start ++ node_intervals whole
+put_two p start now next one two =
+    two ∙ ap (λ l. l ++ node_intervals p.two) one ∙ append_assoc start (node_intervals p.one) (node_intervals p.two)
+    ∙ ap (λ l. start ++ l) (sym (nodes-append p.one p.two)) ∙ ap (λ l. start ++ node_intervals l) (sym p.is)
 
-pub put_three : (whole a b d : List Demand) (start now next last : List Interval) → whole ≡ a ++ (b ++ d)
-    → now ≡ start ++ node_intervals a → next ≡ now ++ node_intervals b → last ≡ next ++ node_intervals d → last ≡ start ++ node_intervals whole
-put_three whole a b d start now next last is one two three =
-    put_two whole a (b ++ d) start now last is one (put_two (b ++ d) b d now next last refl two three)
+pub put_three : {whole : List Demand} (p : Three whole) (start now next last : List Interval)
+    → now ≡ start ++ node_intervals p.one → next ≡ now ++ node_intervals p.two → last ≡ next ++ node_intervals p.three → last ≡ start ++ node_intervals whole
+put_three p start now next last one two three = put_two (parted_first p) start now last one (put_two (parted_rest p) now next last two three)

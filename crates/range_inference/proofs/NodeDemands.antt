@@ -1,5 +1,5 @@
 -- What each node demands, by the intervals of its parts.
-use Rattle.std.proofs.Common.{◌≡◌, ℕ, ℤ, pos, neg_ℤ, ◌≤ℤ◌, ◌<ℤ◌, List, [], ◌∷◌, ◌++◌, map, refl, sym, ap, ◌∙◌, arith, Bool, true, false, Result, Ok, Err}
+use Rattle.std.proofs.Common.{◌≡◌, ℕ, ℤ, List, [], ◌∷◌, ◌++◌, map, refl, sym, ap, ◌∙◌, append_assoc, arith, Bool, true, false}
 use Rattle.std.specs.Prelude.{if◌then◌else◌}
 use Rattle.std.proofs.lemmas.Int.{ints}
 use Rattle.std.proofs.lemmas.Bool.Decides.{nat_tests}
@@ -11,14 +11,16 @@ use Rattle.source_tree.specs.declared.expression.Condition.{Condition}
 use Rattle.source_tree.specs.declared.statement.Place.{Place}
 use Rattle.source_tree.specs.declared.statement.Statement.{Statement, Assign, If, For, While}
 use Rattle.source_tree.proofs.Inductions.{each_expr}
-use Rattle.range_inference.specs.Demands.{Demand, node, limit, condition_demands, place_demands, all_demands, statement_demands, statements_demands, Judged, judged_node, judged, expr_demands, wide_lines}
+use Rattle.range_inference.specs.Demands.{Demand, node, limit, condition_demands, place_demands, all_demands, statement_demands, statements_demands, Judged, judged, expr_demands, wide_lines}
 use Rattle.range_inference.specs.Interval.{Ranges, interval_of_range, interval_of, interval_of_node, interval_by, negated, is_within_bound}
 use Rattle.range_inference.specs.Operators.{IsSmall, FitsWord}
 use Rattle.range_inference.specs.Bound.{IsSetBound}
+use Rattle.range_inference.specs.Outcome.{IsFirst}
+use Rattle.range_inference.specs.declared.fault.RangeFault.TheVariants.{TooWide}
 use Rattle.range_inference.specs.declared.interval.Interval.{Interval}
 use Rattle.range_inference.proofs.Equations.{interval-Number, interval-Name, interval-Element, interval-Neg, interval-Binary, judged-Number, judged-Name, judged-Element, judged-Neg, judged-Binary, demands-Assign, demands-If, demands-For, demands-While}
 use Rattle.range_inference.proofs.Passing.{all_demands-map}
-use Rattle.range_inference.proofs.Judging.{none_then}
+use Rattle.range_inference.proofs.Judging.{Two, Three}
 
 abbrev IsSame : Expr → Type 0
 IsSame e = (judged e).interval ≡ interval_of e
@@ -77,12 +79,9 @@ wide_by_size bound i b h = of (is_within_bound bound i) refl
     of true e = absurd (h (fits_within bound i b e))
     of false e = e
 
--- the last node of an expression is the first that is too wide
-pub last_is_wide : (bound : ℤ) (demands below : List Demand) (i : Interval) (line : ℕ)
-    → demands ≡ below ++ node i line ∷ [] → wide_lines bound below ≡ [] → is_within_bound bound i ≡ false
-    → (rest : List ℕ) × (wide_lines bound demands ≡ line ∷ rest)
-last_is_wide bound demands below i line is none wide =
-    ([], ap (wide_lines bound) is ∙ none_then bound below (node i line ∷ []) none ∙ ap (λ b. (if b then [] else line ∷ []) ++ []) wide)
+-- a node that is too wide
+pub wide_node : (bound : ℤ) (i : Interval) (line : ℕ) → is_within_bound bound i ≡ false → IsFirst (wide_lines bound (node i line ∷ [])) (TooWide line)
+wide_node bound i line wide = ([], ap (λ b. (if b then [] else line ∷ []) ++ []) wide)
 
 -- ---- statements
 module _ (ranges : Ranges) where
@@ -112,3 +111,58 @@ module _ (ranges : Ranges) where
   demands_of-While s condition turns body line is =
       ap (λ t. statement_demands t ranges) is ∙ ap of_node (demands-While condition turns body line)
       ∙ ap (λ l. condition_demands condition ranges ++ limit turns line ∷ l) (all_demands-map body ranges)
+
+-- ---- statements and expressions in parts
+module _ (ranges : Ranges) where
+  abbrev pub assign_parts : (s : Statement) (place : Place) (value : Expr) (line : ℕ) → s ≡ Assign place value line → Two (statement_demands s ranges)
+  assign_parts s place value line is =
+      record { one = place_demands place ranges; two = expr_demands value ranges; is = demands_of-Assign ranges s place value line is }
+
+  abbrev pub if_parts : (s : Statement) (condition : Condition) (first second : List Statement) (line : ℕ) → s ≡ If condition first second line → Three (statement_demands s ranges)
+  if_parts s condition first second line is = record {
+    one = condition_demands condition ranges;
+    two = statements_demands first ranges;
+    three = statements_demands second ranges;
+    is = demands_of-If ranges s condition first second line is;
+  }
+
+  abbrev pub for_parts : (s : Statement) (name : SourceName) (first last : Expr) (body : List Statement) (line : ℕ) → s ≡ For name first last body line → Three (statement_demands s ranges)
+  for_parts s name first last body line is = record {
+    one = expr_demands first ranges;
+    two = expr_demands last ranges;
+    three = statements_demands body ranges;
+    is = demands_of-For ranges s name first last body line is;
+  }
+
+  abbrev pub while_parts : (s : Statement) (condition : Condition) (turns : ℤ) (body : List Statement) (line : ℕ) → s ≡ While condition turns body line → Three (statement_demands s ranges)
+  while_parts s condition turns body line is = record {
+    one = condition_demands condition ranges;
+    two = limit turns line ∷ [];
+    three = statements_demands body ranges;
+    is = demands_of-While ranges s condition turns body line is;
+  }
+
+  -- by the interval of the node
+  abbrev pub element_parts : (e : Expr) (name : SourceName) (index : Expr) (i : Interval) → e ≡ Element name index → i ≡ interval_of_range (ranges name.bytes) → Two (expr_demands e ranges)
+  element_parts e name index i is own = record {
+    one = expr_demands index ranges;
+    two = node i name.line ∷ [];
+    is = demands-Element ranges e name index is ∙ ap (λ (j : Interval). expr_demands index ranges ++ node j name.line ∷ []) (sym own);
+  }
+
+  abbrev pub neg_parts : (e operand : Expr) (line : ℕ) (i : Interval) → e ≡ Neg operand line → i ≡ negated (interval_of operand ranges) → Two (expr_demands e ranges)
+  neg_parts e operand line i is own = record {
+    one = expr_demands operand ranges;
+    two = node i line ∷ [];
+    is = demands-Neg ranges e operand line is ∙ ap (λ (j : Interval). expr_demands operand ranges ++ node j line ∷ []) (sym own);
+  }
+
+  abbrev pub binary_parts : (e left : Expr) (o : Operator) (right : Expr) (line : ℕ) (i : Interval) → e ≡ Binary left o right line
+      → i ≡ interval_by o (interval_of left ranges) (interval_of right ranges) → Three (expr_demands e ranges)
+  binary_parts e left o right line i is own = record {
+    one = expr_demands left ranges;
+    two = expr_demands right ranges;
+    three = node i line ∷ [];
+    is = demands-Binary ranges e left o right line is ∙ append_assoc (expr_demands left ranges) (expr_demands right ranges) (node (interval_by o (interval_of left ranges) (interval_of right ranges)) line ∷ [])
+        ∙ ap (λ (j : Interval). expr_demands left ranges ++ (expr_demands right ranges ++ node j line ∷ [])) (sym own);
+  }

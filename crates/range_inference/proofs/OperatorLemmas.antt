@@ -1,20 +1,20 @@
 -- Results of operators lie in the intervals that are told from those of their operands.
 use Rattle.std.proofs.Common.{◌≡◌, ℕ, zero, suc, ◌+◌, ◌*◌, ◌/◌, ◌%◌, ◌≤◌, ◌<◌, ℤ, pos, negsuc, neg_ℤ, ◌+ℤ◌, ◌-ℤ◌, ◌*ℤ◌, ◌≤ℤ◌, refl, sym, ap, ◌∙◌, subst, arith, Bool, true, false}
-use Rattle.std.specs.Prelude.{if◌then◌else◌, ◌&&◌, not, int_lt, int_le, unsigned_abs}
+use Rattle.std.specs.Prelude.{if◌then◌else◌, int_lt, unsigned_abs}
 use Rattle.std.specs.Ordering.{int_eq}
 use Rattle.std.specs.Int.{int_min, int_max}
 use Rattle.std.proofs.lemmas.Int.{ints, clamps}
 use Rattle.std.proofs.lemmas.Bool.Decides.{nat_tests}
 use Rattle.std.proofs.Math.Nat.{div-le_self, mul-div-le}
 use Rattle.std.proofs.lemmas.Nat.{le-div}
-use Rattle.std.proofs.Math.IntN.{*ℤ_comm, *ℤ-negsuc, pos-*ℤ-pos, negsuc-*ℤ-pos, negsuc-*ℤ-negsuc, neg_ℤ-neg_ℤ}
+use Rattle.std.proofs.Math.IntN.{*ℤ_comm, *ℤ-negsuc, pos-*ℤ-pos}
 use Rattle.moduli_sets.specs.declared.kind.Kind.TheVariants.{Zero}
 use Rattle.number_theory.specs.Residue.{quotient}
 use Rattle.number_theory.proofs.IntervalLemmas.{product_between}
 use Rattle.number_theory.specs.Division.{floor_div, floor_mod}
 use Rattle.source_tree.specs.State.{State}
-use Rattle.source_tree.specs.Run.{Run, returns, traps, Leads}
-use Rattle.source_tree.specs.Expression.{operator_result, quotient_or_trap}
+use Rattle.source_tree.specs.Run.{returns, traps, Leads}
+use Rattle.source_tree.specs.Expression.{operator_result}
 use Rattle.source_tree.specs.declared.expression.Operator.{Operator}
 use Rattle.source_tree.specs.declared.expression.Operator.TheVariants.{Add, Sub, Mul, Div, Mod}
 use Rattle.range_inference.specs.Interval.{from_to, contains, size_of, is_one_divisor, negated, interval_by}

@@ -1,5 +1,5 @@
 -- Worked rows of the intervals of operators, and of what lies in the range of each set.
-use Rattle.std.specs.Prelude.{◌≡◌, refl, ℤ, pos, negsuc, neg_ℤ, true, false}
+use Rattle.std.specs.Prelude.{◌≡◌, refl, pos, neg_ℤ, true, false}
 use Rattle.moduli_sets.specs.declared.set_name.SetName.TheVariants.{Pocket, Desk, Hall}
 use Rattle.source_tree.specs.declared.expression.Operator.TheVariants.{Add, Sub, Mul, Div, Mod}
 use Rattle.range_inference.specs.Bound.{bound_of}

@@ -1,6 +1,6 @@
 -- The values of expressions lie in their intervals, and to watch them changes nothing.
-use Rattle.std.proofs.Common.{◌≡◌, ℕ, zero, suc, ◌<◌, ◌≤◌, ℤ, pos, negsuc, List, [], ◌∷◌, ◌++◌, length, refl, sym, ap, ◌∙◌, subst, arith, Bool, true, false, Option, Some, None}
-use Rattle.std.specs.Prelude.{if◌then◌else◌, ◌&&◌, int_le, int_lt, slice_get, slice_index_or, unsigned_abs}
+use Rattle.std.proofs.Common.{◌≡◌, ℕ, ◌<◌, ℤ, pos, negsuc, List, [], ◌∷◌, ◌++◌, length, refl, sym, ap, ◌∙◌, subst, arith, Bool, true, Option, Some, None}
+use Rattle.std.specs.Prelude.{if◌then◌else◌, ◌&&◌, int_le, int_lt, slice_get, unsigned_abs}
 use Rattle.std.proofs.lemmas.Int.{ints}
 use Rattle.std.proofs.lemmas.Bool.Decides.{nat_tests}
 use Rattle.plain_text.specs.Lookup.{lookup}
@@ -8,7 +8,7 @@ use Rattle.moduli_sets.specs.declared.kind.Kind.TheVariants.{Index}
 use Rattle.name_check.specs.Names.{as_variable, as_array, faults_of_expr_node, expr_faults}
 use Rattle.name_check.specs.declared.fault.NameFault.{NameFault}
 use Rattle.source_tree.specs.State.{State}
-use Rattle.source_tree.specs.Run.{Run, visit, happens, returns, traps, and_then, Leads}
+use Rattle.source_tree.specs.Run.{Run, visit, returns, traps, and_then}
 use Rattle.source_tree.specs.Scope.{Declared, variable, array, procedure, Scope, is_within, integer_of, range_of, range_at, has_element, element_of}
 use Rattle.source_tree.specs.Expression.{Calls, Evaluation, evaluation, evaluation_of_node, operator_result}
 use Rattle.source_tree.specs.Fits.{FitsAs, Fits, IsAmong, IsScopeOf, Suit, KeepFits}

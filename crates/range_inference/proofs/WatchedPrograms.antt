@@ -1,19 +1,19 @@
 -- To watch the values of expressions changes nothing in what a source means.
-use Rattle.std.proofs.Common.{◌≡◌, ℕ, ◌+◌, ℤ, ◌≤ℤ◌, List, [], ◌∷◌, ◌++◌, length, map, refl, sym, ap, ◌∙◌, subst, arith, Bool, true, false, Some, None}
+use Rattle.std.proofs.Common.{◌≡◌, ℕ, ◌+◌, ℤ, ◌≤ℤ◌, List, [], ◌∷◌, ◌++◌, length, map, refl, sym, subst, arith, Bool, true, false, Some}
 use Rattle.std.specs.Prelude.{zero, suc, pos, if◌then◌else◌, ⊤, slice_get, nat_eq, int_lt}
 use Rattle.std.proofs.lemmas.Bool.Decides.{nat_tests}
 use Rattle.std.proofs.lemmas.Int.{ints}
-use Rattle.name_check.specs.Names.{where_broken, as_new, range_faults, params_faults, locals_faults, declaration_faults, procedures_in, most_procedures, all_faults, statement_faults, faults_of_rest, name_faults}
-use Rattle.name_check.specs.declared.fault.NameFault.{NameFault}
+use Rattle.name_check.specs.Names.{where_broken, as_new, range_faults, variables_faults, params_faults, locals_faults, declaration_faults, procedures_in, most_procedures, all_faults, statement_faults, faults_of_rest, name_faults}
 use Rattle.name_check.specs.declared.fault.NameFault.TheVariants.{BadRange, EmptyArray, TooMany}
 use Rattle.std.specs.Ordering.{int_eq}
 use Rattle.source_tree.specs.State.{State, with_integers}
-use Rattle.source_tree.specs.Run.{Run, Leads}
-use Rattle.source_tree.specs.Scope.{Declared, variable, array, procedure, Scope, with_params, inside, with_declared, names_in, with_all_declared, range_at}
+use Rattle.source_tree.specs.Run.{Run}
+use Rattle.source_tree.specs.Scope.{Declared, variable, procedure, Scope, with_params, inside, with_declared, names_in, with_all_declared, range_at}
 use Rattle.source_tree.specs.Expression.{Calls, Evaluation, evaluation}
 use Rattle.source_tree.specs.Statement.{in_order, execution_by}
 use Rattle.source_tree.specs.Meaning.{at_start, locals_set, call_of, no_calls, with_call, with_all_calls, meaning_by, meaning}
 use Rattle.source_tree.specs.Fits.{variables_from, params_declared, locals_declared, declared_in, all_declared, declared_by, Fits, HasRange, HaveRanges, IsScopeOf, Suit, KeepFits}
+use Rattle.source_tree.specs.declared.name.Name.{Name}
 use Rattle.source_tree.specs.declared.name.Range.{Range}
 use Rattle.source_tree.specs.declared.expression.Expr.{Expr}
 use Rattle.source_tree.specs.declared.statement.Statement.{Statement}
@@ -25,10 +25,9 @@ use Rattle.source_tree.specs.declared.declaration.Program.{Program}
 use Rattle.source_tree.proofs.RunLaws.{and_then_agrees}
 use Rattle.source_tree.proofs.FitsLemmas.{same_number, StandsAt, stands_whole, with_integers_fits}
 use Rattle.source_tree.proofs.FitsStatements.{Kept, evaluation_keeps}
-use Rattle.source_tree.proofs.FitsPrograms.{stands_first, stands_rest, stands_params, scope_params, scope_locals, scope_declared, scope_all_declared, locals_keep, nothing_keeps, with_call_keeps, all_calls_keep, start_fits}
-use Rattle.range_inference.specs.Demands.{Demand, params_demands, locals_demands, statements_demands, declaration_demands, declarations_demands, statement_demands, all_demands, demands_of, intervals_in}
-use Rattle.range_inference.specs.Interval.{Ranges}
-use Rattle.range_inference.specs.Watched.{Passes, watched_evaluation}
+use Rattle.source_tree.proofs.FitsPrograms.{stands_first, stands_rest, stands_params, scope_variables, scope_declared, scope_all_declared, locals_keep, nothing_keeps, with_call_keeps, all_calls_keep, start_fits}
+use Rattle.range_inference.specs.Demands.{params_demands, locals_demands, statements_demands, declaration_demands, declarations_demands, statement_demands, all_demands, demands_of}
+use Rattle.range_inference.specs.Watched.{watched_evaluation}
 use Rattle.range_inference.specs.declared.interval.Interval.{Interval}
 use Rattle.range_inference.proofs.Passing.{AllPass, pass_first, pass_second, all_demands-map}
 use Rattle.range_inference.proofs.SameRuns.{not_empty, first_empty, second_empty}
@@ -56,20 +55,12 @@ not_empty_range range line none = of (int_lt range.high range.low) refl none
     of true e h = absurd (not_empty _ _ h)
     of false e h = grind (arith, ints, nat_tests)
 
-params_have : (k : ℕ) (params : List Param) (scope : Scope) → params_faults k params scope ≡ [] → AllHave (params_declared k params)
-params_have k [] scope none = tt
-params_have k (p ∷ params) scope none =
-    let one = second_empty (as_new p.name scope) _ none in (
-      not_empty_range p.range p.name.line (first_empty (range_faults p.range p.name.line) _ one),
-      params_have (k + 1) params (scope ++ (p.name.bytes, variable k p.range) ∷ []) (second_empty (range_faults p.range p.name.line) _ one),
-    )
-
-locals_have : (k : ℕ) (locals : List Local) (scope : Scope) → locals_faults k locals scope ≡ [] → AllHave (locals_declared k locals)
-locals_have k [] scope none = tt
-locals_have k (l ∷ locals) scope none =
-    let one = second_empty (as_new l.name scope) _ none in (
-      not_empty_range l.range l.name.line (first_empty (range_faults l.range l.name.line) _ one),
-      locals_have (k + 1) locals (scope ++ (l.name.bytes, variable k l.range) ∷ []) (second_empty (range_faults l.range l.name.line) _ one),
+variables_have : {A : Type 0} (name : A → Name) (range : A → Range) (k : ℕ) (xs : List A) (scope : Scope) → variables_faults name range k xs scope ≡ [] → AllHave (variables_from k (map range xs))
+variables_have name range k [] scope none = tt
+variables_have name range k (x ∷ xs) scope none =
+    let one = second_empty (as_new (name x) scope) _ none in (
+      not_empty_range (range x) (name x).line (first_empty (range_faults (range x) (name x).line) _ one),
+      variables_have name range (k + 1) xs (scope ++ ((name x).bytes, variable k (range x)) ∷ []) (second_empty (range_faults (range x) (name x).line) _ one),
     )
 
 declaration_has : (k procedures : ℕ) (d : Declaration) (scope : Scope) → declaration_faults k procedures d scope ≡ [] → AllHave (declared_in k d)
@@ -84,8 +75,8 @@ declaration_has k procedures (Proc name params locals body line) scope none =
     let three = second_empty (params_faults (k + 1) params scope) _ two in (
       tt,
       have-append (params_declared (k + 1) params) (locals_declared (k + 1 + length params) locals)
-          (params_have (k + 1) params scope (first_empty (params_faults (k + 1) params scope) _ two))
-          (locals_have (k + 1 + length params) locals (with_params (k + 1) params scope) (first_empty (locals_faults (k + 1 + length params) locals (with_params (k + 1) params scope)) _ three)),
+          (variables_have (λ p. p.name) (λ p. p.range) (k + 1) params scope (first_empty (params_faults (k + 1) params scope) _ two))
+          (variables_have (λ l. l.name) (λ l. l.range) (k + 1 + length params) locals (with_params (k + 1) params scope) (first_empty (locals_faults (k + 1 + length params) locals (with_params (k + 1) params scope)) _ three)),
     )
 
 all_have : (k procedures : ℕ) (ds : List Declaration) (statements : List Statement) (scope : Scope) → faults_of_rest k procedures ds statements scope ≡ [] → AllHave (all_declared k ds)
@@ -130,7 +121,7 @@ module _ (declared : List Declared) (ranges : HaveRanges declared) (test : Inter
       let set = with_integers (k + 1) arguments state in
       let held = with_integers_fits declared (k + 1) (map (λ p. p.range) params) arguments state own.0 suit fits in
       let within : Scope = inside k params locals scope in
-      let names = scope_locals declared (k + 1 + length params) locals _ own.1 (scope_params declared (k + 1) params scope own.0 s) in
+      let names = scope_variables declared (λ l. l.name) (λ l. l.range) (k + 1 + length params) locals _ own.1 (scope_variables declared (λ p. p.name) (λ p. p.range) (k + 1) params scope own.0 s) in
       let tied : Tied declared within calls' calls = record { names = names; keep = keep; agree = agree } in
       and_then_agrees (locals_set (k + 1 + length params) locals set)
       (λ u after. in_order (map (execution_by watching) body) within calls' after)

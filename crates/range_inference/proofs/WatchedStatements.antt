@@ -1,15 +1,15 @@
 -- To watch the values of expressions changes nothing in what statements do, and they keep what fits.
-use Rattle.std.proofs.Common.{◌≡◌, ℕ, zero, suc, ℤ, pos, ◌+ℤ◌, List, [], ◌∷◌, ◌++◌, length, refl, sym, ap, subst, Bool, true, Option, Some, None, map}
+use Rattle.std.proofs.Common.{◌≡◌, ℕ, zero, suc, ℤ, pos, ◌+ℤ◌, List, [], ◌∷◌, length, refl, sym, subst, Bool, Option, Some, None, map}
 use Rattle.std.specs.Prelude.{⊤, unsigned_abs}
 use Rattle.plain_text.specs.Lookup.{lookup}
 use Rattle.moduli_sets.specs.declared.kind.Kind.{Kind}
 use Rattle.moduli_sets.specs.declared.kind.Kind.TheVariants as kind
 use Rattle.name_check.specs.Names.{as_array, as_procedure, as_assigned, with_loop, expr_faults, exprs_faults, condition_faults, Loops, place_faults, Faults, all_faults, faults_of_node, statement_faults}
 use Rattle.source_tree.specs.State.{State}
-use Rattle.source_tree.specs.Run.{Run, visit, print, traps}
-use Rattle.source_tree.specs.Scope.{Declared, variable, array, procedure, Scope, is_within, range_of, range_at, has_element, with_integer_at, with_element_of}
+use Rattle.source_tree.specs.Run.{Run, visit, traps}
+use Rattle.source_tree.specs.Scope.{Declared, variable, array, procedure, Scope, is_within, range_of, range_at, has_element, with_integer_at}
 use Rattle.source_tree.specs.Expression.{Calls, Evaluation, evaluation}
-use Rattle.source_tree.specs.Statement.{Execution, in_order, nothing_done, test_of, put_into_element, put_into, read_into, line_of, for_turns, turns_of, while_turns, argument_values, procedure_call, execution_of_node, execution_by}
+use Rattle.source_tree.specs.Statement.{Execution, in_order, test_of, put_into, read_into, line_of, for_turns, turns_of, while_turns, argument_values, procedure_call, execution_of_node, execution_by}
 use Rattle.source_tree.specs.Fits.{Fits, IsAmong, Suit}
 use Rattle.source_tree.specs.declared.name.Name.{Name as SourceName}
 use Rattle.source_tree.specs.declared.name.Range.{Range}

@@ -4,6 +4,7 @@
 use Rattle.std.specs.Prelude.{ℕ, ◌+◌, ℤ, List, [], ◌∷◌, ◌++◌, if◌then◌else◌}
 use Rattle.std.specs.List.{flat_map}
 use Rattle.source_tree.specs.Scope.{Scope, range_at, inside, with_declared, names_in, with_all_declared}
+use Rattle.source_tree.specs.declared.name.Name.{Name}
 use Rattle.source_tree.specs.declared.name.Range.{Range}
 use Rattle.source_tree.specs.declared.declaration.Declaration.{Declaration}
 use Rattle.source_tree.specs.declared.declaration.Declaration.TheVariants.{Var, Array, Proc}
@@ -92,11 +93,14 @@ abbrev pub statements_demands : List Statement → Ranges → List Demand
 statements_demands statements ranges = flat_map (λ s. statement_demands s ranges) statements
 
 -- ---- declarations; a parameter or local has the line of its name
+abbrev pub variables_demands : {A : Type 0} → (A → Name) → (A → Range) → List A → List Demand
+variables_demands name range xs = flat_map (λ x. declared (range x) (name x).line ∷ []) xs
+
 abbrev pub params_demands : List Param → List Demand
-params_demands params = flat_map (λ p. declared p.range p.name.line ∷ []) params
+params_demands params = variables_demands (λ p. p.name) (λ p. p.range) params
 
 abbrev pub locals_demands : List Local → List Demand
-locals_demands locals = flat_map (λ l. declared l.range l.name.line ∷ []) locals
+locals_demands locals = variables_demands (λ l. l.name) (λ l. l.range) locals
 
 abbrev pub procedure_demands : ℕ → List Param → List Local → List Statement → Scope → List Demand
 procedure_demands k params locals body scope =

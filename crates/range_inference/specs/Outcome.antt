@@ -1,5 +1,5 @@
 -- What a walk over a part of a source answers.
-use Rattle.std.specs.Prelude.{◌≡◌, ℕ, ℤ, List, [], ◌∷◌, Bool, true, false, Result, Ok, Err, ⊤}
+use Rattle.std.specs.Prelude.{◌≡◌, ℕ, ℤ, List, [], ◌∷◌, true, false, Result, Ok, Err, ⊤}
 use Rattle.range_inference.specs.Demands.{Demand, wide_lines}
 use Rattle.range_inference.specs.Interval.{is_within_bound}
 use Rattle.range_inference.specs.declared.fault.RangeFault.{RangeFault}

@@ -1,6 +1,5 @@
 -- Ranges by name.
 use Rattle.std.specs.Prelude.{◌≡◌, ℕ, List, ◌++◌, map, Option, Some, None}
-use Rattle.std.specs.Global.{Vec}
 use Rattle.plain_text.specs.Lookup.{Named, lookup}
 use Rattle.source_tree.specs.Scope.{Scope, empty_range, range_of}
 use Rattle.source_tree.specs.declared.name.Range.{Range}
@@ -12,10 +11,6 @@ range_or_empty None = empty_range
 
 unfoldable pub range_in : Named Range → List ℕ → Range
 range_in entries name = range_or_empty (lookup name entries)
-
--- ---- as they are held
-abbrev pub named : List (Vec ℕ × Range) → Named Range
-named entries = map (λ e. (e.0.items, e.1)) entries
 
 -- ---- of a scope
 -- what stands under each name, by its range; a procedure has the empty one

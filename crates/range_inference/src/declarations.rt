@@ -1,25 +1,26 @@
 ghost use Rattle.std.specs.Prelude.{◌≡◌, ℕ, List, ◌∷◌, [], ◌++◌, OnOk};
 ghost use Rattle.plain_text.specs.Lookup.{lookup};
-ghost use Rattle.range_inference.specs.Demands.{declaration_demands, declarations_demands, declared, locals_demands, node_intervals, params_demands, procedure_demands};
+ghost use Rattle.range_inference.specs.Demands.{declaration_demands, declarations_demands, declared, node_intervals, procedure_demands, variables_demands};
 ghost use Rattle.range_inference.specs.Outcome.{IsJudged};
 ghost use Rattle.range_inference.specs.Table.{Extends, Mirrors};
-ghost use Rattle.source_tree.specs.Scope.{Scope, with_all_declared, with_declared, with_locals, with_params};
+ghost use Rattle.source_tree.specs.Scope.{Scope, with_all_declared, with_declared, with_variables};
 
 use crate::bound::Bound;
 use crate::demand::require;
 use crate::fault::RangeFault;
 use crate::interval::Interval;
-use crate::range_table::{EMPTY, RangeTable};
+use crate::ranges::{EMPTY, declare};
 use crate::statements::statements;
-use source_tree::{Declaration, Local, Name, Param, Range, Statement};
+use name_table::NameTable;
+use source_tree::{Declaration, Local, Name, Param, Range, Statement, Variable};
 use sqlite_items::Items;
 use std::alloc::Global;
 
 /// Judges declarations, one after another, and puts their names into the table.
 pub fn declarations(
     alloc: Global,
-    list: &[Declaration],
-    table: &mut RangeTable,
+    list: &Items<Declaration>,
+    table: &mut NameTable<Range>,
     bound: Bound,
     intervals: &mut Items<Interval>,
 ) -> Result<(), RangeFault>
@@ -28,7 +29,7 @@ pub fn declarations(
     ensures intervals { OnOk result (intervals.new ≡ intervals.old ++ node_intervals (declarations_demands 0 list.now [])) }
     ensures ranges { OnOk result (Mirrors table.new (with_all_declared 0 list.now [])) }
 {
-    for d in list {
+    for d in list.as_slice() {
         declaration(alloc, d, table, bound, intervals)?;
     }
     Ok(())
@@ -38,7 +39,7 @@ pub fn declarations(
 fn declaration(
     alloc: Global,
     d: &Declaration,
-    table: &mut RangeTable,
+    table: &mut NameTable<Range>,
     bound: Bound,
     intervals: &mut Items<Interval>,
 ) -> Result<(), RangeFault>
@@ -69,16 +70,8 @@ fn declaration(
             body,
             ..
         } => {
-            procedure(
-                alloc,
-                own.as_slice(),
-                inner.as_slice(),
-                body.as_slice(),
-                table,
-                bound,
-                intervals,
-            )?;
-            table.declare(alloc, name.bytes.as_slice(), EMPTY)?;
+            procedure(alloc, own, inner, body, table, bound, intervals)?;
+            declare(alloc, table, name.bytes.as_slice(), EMPTY)?;
             Ok(())
         }
     }
@@ -87,10 +80,10 @@ fn declaration(
 /// Judges parameters, locals and a body. The table is then as it was before.
 fn procedure(
     alloc: Global,
-    own: &[Param],
-    inner: &[Local],
-    body: &[Statement],
-    table: &mut RangeTable,
+    own: &Items<Param>,
+    inner: &Items<Local>,
+    body: &Items<Statement>,
+    table: &mut NameTable<Range>,
     bound: Bound,
     intervals: &mut Items<Interval>,
 ) -> Result<(), RangeFault>
@@ -103,47 +96,29 @@ fn procedure(
     ensures table { OnOk result (table.new ≡ table.old) }
 {
     let outside = table.len();
-    params(alloc, own, table, bound)?;
-    locals(alloc, inner, table, bound)?;
+    declare_all(alloc, own, table, bound)?;
+    declare_all(alloc, inner, table, bound)?;
     statements(body, table, bound, intervals)?;
     table.truncate(outside);
     Ok(())
 }
 
-/// Judges the ranges of parameters, and puts their names into the table.
-fn params(
+/// Judges the ranges of parameters or locals, and puts their names into the table.
+fn declare_all<V: Variable>(
     alloc: Global,
-    list: &[Param],
-    table: &mut RangeTable,
+    list: &Items<V>,
+    table: &mut NameTable<Range>,
     bound: Bound,
 ) -> Result<(), RangeFault>
-    ensures first { IsJudged bound.value (params_demands list.now) result }
+    ensures first { IsJudged bound.value (variables_demands V.name_of V.range_of list.now) result }
     ensures ranges { OnOk result ((k : ℕ) (scope : Scope)
         → Mirrors table.old scope
-        → Mirrors table.new (with_params k list.now scope)) }
+        → Mirrors table.new (with_variables V.name_of V.range_of k list.now scope)) }
     ensures others { OnOk result (Extends table.old table.new) }
 {
-    for p in list {
-        variable(alloc, &p.name, p.range, p.name.line, table, bound)?;
-    }
-    Ok(())
-}
-
-/// Judges the ranges of locals, and puts their names into the table.
-fn locals(
-    alloc: Global,
-    list: &[Local],
-    table: &mut RangeTable,
-    bound: Bound,
-) -> Result<(), RangeFault>
-    ensures first { IsJudged bound.value (locals_demands list.now) result }
-    ensures ranges { OnOk result ((k : ℕ) (scope : Scope)
-        → Mirrors table.old scope
-        → Mirrors table.new (with_locals k list.now scope)) }
-    ensures others { OnOk result (Extends table.old table.new) }
-{
-    for l in list {
-        variable(alloc, &l.name, l.range, l.name.line, table, bound)?;
+    for v in list.as_slice() {
+        let name = v.name();
+        variable(alloc, name, v.range(), name.line, table, bound)?;
     }
     Ok(())
 }
@@ -154,7 +129,7 @@ fn variable(
     name: &Name,
     range: Range,
     line: u32,
-    table: &mut RangeTable,
+    table: &mut NameTable<Range>,
     bound: Bound,
 ) -> Result<(), RangeFault>
     ensures first { IsJudged bound.value (declared range line ∷ []) result }
@@ -162,6 +137,6 @@ fn variable(
     ensures others { OnOk result (Extends table.old table.new) }
 {
     require(Interval::of_range(range), line, bound)?;
-    table.declare(alloc, name.bytes.as_slice(), range)?;
+    declare(alloc, table, name.bytes.as_slice(), range)?;
     Ok(())
 }

@@ -9,14 +9,15 @@ use crate::demand::put;
 use crate::fault::RangeFault;
 use crate::interval::Interval;
 use crate::operators::{combined, negated};
-use crate::range_table::RangeTable;
-use source_tree::{Condition, Expr, Place};
+use crate::ranges::range_of;
+use name_table::NameTable;
+use source_tree::{Condition, Expr, Place, Range};
 use sqlite_items::Items;
 
 /// The interval of an expression. Those of its nodes are put behind the others.
 pub fn expr(
     e: &Expr,
-    table: &RangeTable,
+    table: &NameTable<Range>,
     bound: Bound,
     intervals: &mut Items<Interval>,
 ) -> Result<Interval, RangeFault>
@@ -27,12 +28,12 @@ pub fn expr(
     match e {
         Expr::Number { value, line } => put(Interval::one(*value), *line, bound, intervals),
         Expr::Name(name) => {
-            let range = table.range(name.bytes.as_slice());
+            let range = range_of(table, name.bytes.as_slice());
             put(Interval::of_range(range), name.line, bound, intervals)
         }
         Expr::Element { name, index } => {
             expr(index.get(), table, bound, intervals)?;
-            let range = table.range(name.bytes.as_slice());
+            let range = range_of(table, name.bytes.as_slice());
             put(Interval::of_range(range), name.line, bound, intervals)
         }
         Expr::Neg { operand, line } => {
@@ -58,7 +59,7 @@ pub fn expr(
 /// Judges both sides of a condition.
 pub fn condition(
     condition: &Condition,
-    table: &RangeTable,
+    table: &NameTable<Range>,
     bound: Bound,
     intervals: &mut Items<Interval>,
 ) -> Result<(), RangeFault>
@@ -73,7 +74,7 @@ pub fn condition(
 /// Judges the index of a place, where it has one.
 pub fn place(
     place: &Place,
-    table: &RangeTable,
+    table: &NameTable<Range>,
     bound: Bound,
     intervals: &mut Items<Interval>,
 ) -> Result<(), RangeFault>
@@ -91,15 +92,15 @@ pub fn place(
 
 /// Judges expressions, one after another.
 pub fn exprs(
-    expressions: &[Expr],
-    table: &RangeTable,
+    expressions: &Items<Expr>,
+    table: &NameTable<Range>,
     bound: Bound,
     intervals: &mut Items<Interval>,
 ) -> Result<(), RangeFault>
     ensures first { IsJudged bound.value (exprs_demands expressions.now (range_in table.now)) result }
     ensures intervals { OnOk result (intervals.new ≡ intervals.old ++ node_intervals (exprs_demands expressions.now (range_in table.now))) }
 {
-    for e in expressions {
+    for e in expressions.as_slice() {
         expr(e, table, bound, intervals)?;
     }
     Ok(())

@@ -7,10 +7,10 @@ use crate::bound::Bound;
 use crate::declarations::declarations;
 use crate::fault::RangeFault;
 use crate::interval::Interval;
-use crate::range_table::RangeTable;
 use crate::statements::statements;
 use moduli_sets::SetName;
 use name_check::Checked;
+use name_table::NameTable;
 use source_tree::Program;
 use sqlite_items::Items;
 use std::alloc::Global;
@@ -74,15 +74,15 @@ fn intervals_of(
     ensures value { IfOk result (λ intervals. intervals ≡ intervals_in program.now) }
     ensures first { IsJudged bound.value (demands_of program.now) result }
 {
-    let mut table = RangeTable::new(alloc);
+    let mut table = NameTable::new(alloc);
     let mut intervals = Items::new(alloc);
     declarations(
         alloc,
-        program.declarations.as_slice(),
+        &program.declarations,
         &mut table,
         bound,
         &mut intervals,
     )?;
-    statements(program.statements.as_slice(), &table, bound, &mut intervals)?;
+    statements(&program.statements, &table, bound, &mut intervals)?;
     Ok(intervals)
 }

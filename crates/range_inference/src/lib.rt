@@ -15,7 +15,7 @@ mod inference;
 mod interval;
 mod laws;
 mod operators;
-mod range_table;
+mod ranges;
 mod statements;
 
 pub use fault::RangeFault;

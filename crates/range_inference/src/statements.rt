@@ -8,22 +8,22 @@ use crate::demand::require;
 use crate::expressions::{condition, expr, exprs, place};
 use crate::fault::RangeFault;
 use crate::interval::Interval;
-use crate::range_table::RangeTable;
-use source_tree::Statement;
+use name_table::NameTable;
+use source_tree::{Range, Statement};
 use sqlite_items::Items;
 
 /// Judges statements, one after another.
 #[cycle(statement)]
 pub fn statements(
-    list: &[Statement],
-    table: &RangeTable,
+    list: &Items<Statement>,
+    table: &NameTable<Range>,
     bound: Bound,
     intervals: &mut Items<Interval>,
 ) -> Result<(), RangeFault>
     ensures first { IsJudged bound.value (statements_demands list.now (range_in table.now)) result }
     ensures intervals { OnOk result (intervals.new ≡ intervals.old ++ node_intervals (statements_demands list.now (range_in table.now))) }
 {
-    for s in list {
+    for s in list.as_slice() {
         statement(s, table, bound, intervals)?;
     }
     Ok(())
@@ -33,7 +33,7 @@ pub fn statements(
 #[cycle(statement)]
 fn statement(
     s: &Statement,
-    table: &RangeTable,
+    table: &NameTable<Range>,
     bound: Bound,
     intervals: &mut Items<Interval>,
 ) -> Result<(), RangeFault>
@@ -60,8 +60,8 @@ fn statement(
             ..
         } => {
             condition(test, table, bound, intervals)?;
-            statements(first.as_slice(), table, bound, intervals)?;
-            statements(second.as_slice(), table, bound, intervals)?;
+            statements(first, table, bound, intervals)?;
+            statements(second, table, bound, intervals)?;
         }
         Statement::For {
             first,
@@ -71,7 +71,7 @@ fn statement(
         } => {
             expr(first, table, bound, intervals)?;
             expr(last, table, bound, intervals)?;
-            statements(body.as_slice(), table, bound, intervals)?;
+            statements(body, table, bound, intervals)?;
         }
         Statement::While {
             condition: test,
@@ -81,9 +81,9 @@ fn statement(
         } => {
             condition(test, table, bound, intervals)?;
             require(Interval::one(*limit), *line, bound)?;
-            statements(body.as_slice(), table, bound, intervals)?;
+            statements(body, table, bound, intervals)?;
         }
-        Statement::Call { arguments, .. } => exprs(arguments.as_slice(), table, bound, intervals)?,
+        Statement::Call { arguments, .. } => exprs(arguments, table, bound, intervals)?,
     }
     Ok(())
 }

@@ -1,14 +1,17 @@
 -- What a job does once its files are there: a row a command in each table.
-use Rattle.std.specs.Prelude.{◌≡◌, ◌≢◌, ℕ, ℤ, ◌⊎◌, Bool, true, false, List, [], ◌∷◌, ◌++◌, Option, Some, None, Result, Ok, Err, slice_index_or, codes}
+use Rattle.std.specs.Prelude.{◌≡◌, ◌≢◌, ℕ, ℤ, ◌⊎◌, Bool, true, false, List, [], ◌∷◌, ◌++◌, Option, Some, None, Result, Ok, Err, slice_index_or, codes, ⊤}
 use Rattle.number_text.specs.Lines.{line, print_lines}
 use Rattle.outside.specs.Sink.{SinkState}
 use Rattle.thin_source.specs.ThinTree.{Program}
 use Rattle.thin_source.specs.ThinMeaning.{IsThin, prints_of}
+use Rattle.moduli_sets.specs.declared.set_name.SetName.{SetName}
+use Rattle.number_text.specs.Input.{AreNumbers, IsFirstOther, input_words}
+use Rattle.source_tree.specs.Meaning.{meaning}
+use Rattle.source_tree.specs.Run.{Limited, Ending as RunEnding, returned, trapped, spent, limited}
 use Rattle.source_tree.specs.declared.declaration.Program.{Program as SourceProgram}
 use Rattle.source_reader.specs.declared.fault.SourceFault.{SourceFault}
 use Rattle.source_reader.specs.declared.fault.SourceKind.TheVariants.{Unbuilt}
-use Rattle.source_parser.specs.Parsed.{SpellsProgram}
-use Rattle.source_reader.specs.Reading.{IsFirstFault}
+use Rattle.source_reader.specs.Reading.{IsFirstFault, IsProgramOf}
 use Rattle.command_words.specs.declared.job.Job.{Job}
 use Rattle.command_words.specs.declared.job.Job.TheVariants.{Run, Decode, Encode, Mean, Set}
 use Rattle.word_readers.specs.declared.operands.FileWord.{FileWord}
@@ -19,9 +22,12 @@ use Rattle.redundant_decoder.specs.Verdict.{IsVerdict}
 use Rattle.job_endings.specs.declared.status.Status.{Status}
 use Rattle.job_endings.specs.declared.status.Status.TheVariants as status
 use Rattle.job_endings.specs.declared.refusal.Refusal.{Refusal}
-use Rattle.job_endings.specs.declared.refusal.Refusal.TheVariants.{Source}
+use Rattle.job_endings.specs.declared.refusal.Refusal.TheVariants.{Source, Input}
 use Rattle.job_endings.specs.declared.refusal.Stop.{Stop}
 use Rattle.job_endings.specs.declared.refusal.Stop.TheVariants.{Refused, NoMemory}
+use Rattle.job_endings.specs.declared.ending.Ending.{Ending}
+use Rattle.job_endings.specs.declared.ending.Ending.TheVariants.{End, Trap, Spent}
+use Rattle.job_endings.specs.EndingLines.{ending_line, ending_status}
 use Rattle.job_endings.specs.Endings.{EndsPut}
 use Rattle.job_endings.specs.Refusals.{names_file, refusal_line, refusal_status}
 use Rattle.set_commands.specs.Decode.{verdict_lines, verdict_status}
@@ -50,6 +56,7 @@ is_own (lines puts status.Damage) = true
 is_own (lines puts status.Spent) = true
 is_own (lines puts status) = false
 is_own (refused (Source fault)) = true
+is_own (refused (Input place)) = true
 is_own (refused refusal) = false
 
 abbrev pub IsOwn : (Answer → Type 0) → Answer → Type 0
@@ -97,11 +104,28 @@ IsRunAnswer source answer =
     ((program : Program) × IsThin source program × (answer ≡ lines (run_lines (prints_of program)) status.Ok))
     ⊎ (((program : Program) → IsThin source program → ⊥) × (answer ≡ refused (Source unbuilt)))
 
--- a source is refused by its first fault, and one that spells a program since its meaning is not computed yet
-abbrev pub IsMeanAnswer : List ℕ → Answer → Type 0
-IsMeanAnswer source answer =
-    ((fault : SourceFault) × IsFirstFault source fault × (answer ≡ refused (Source fault)))
-    ⊎ ((program : SourceProgram) × SpellsProgram source program × (answer ≡ refused (Source unbuilt)))
+-- how a run of a source ends, as it is printed
+abbrev pub ending_of : RunEnding ⊤ → Ending
+ending_of (returned value after left) = End
+ending_of (trapped kind line) = Trap kind line
+ending_of spent = Spent
+
+-- what a source puts that means so much within a limit
+abbrev pub mean_lines : Limited ⊤ → List (List ℕ)
+mean_lines limited = print_lines limited.prints ++ ending_line (ending_of limited.ending) ∷ []
+
+-- a program on an input: refused at the first word of the input that is no whole number, or what it means on its numbers
+abbrev pub IsMeaningAnswer : ℕ → SourceProgram → List ℕ → Answer → Type 0
+IsMeaningAnswer steps program input answer =
+    ((place : ℕ) × IsFirstOther (input_words input) place × (answer ≡ refused (Input place)))
+    ⊎ ((numbers : List ℤ) × AreNumbers (input_words input) numbers
+    × (answer ≡ lines (mean_lines (limited steps (meaning program numbers))) (ending_status (ending_of (limited steps (meaning program numbers)).ending))))
+
+-- a source is refused by its first fault on the set, and otherwise means something on the input
+abbrev pub IsMeanAnswer : SetName → ℕ → List ℕ → List ℕ → Answer → Type 0
+IsMeanAnswer set steps source input answer =
+    ((fault : SourceFault) × IsFirstFault set source fault × (answer ≡ refused (Source fault)))
+    ⊎ ((program : SourceProgram) × IsProgramOf set source program × IsMeaningAnswer steps program input answer)
 
 -- the answer of a job to its texts, in the order of its files
 abbrev pub IsDone : Job → List (List ℕ) → Answer → Type 0
@@ -110,7 +134,7 @@ IsDone (Decode set residues) texts answer =
     (verdict : Verdict) × IsVerdict (radius (set_of_name set)) None (set_of_name set) residues verdict
     × (answer ≡ lines (verdict_lines verdict) (verdict_status verdict))
 IsDone (Encode set x) texts answer = answer ≡ lines (encode_lines (set_of_name set) x) status.Ok
-IsDone (Mean source input set steps) texts answer = IsMeanAnswer (text_at texts 0) answer
+IsDone (Mean source input set steps) texts answer = IsMeanAnswer set steps (text_at texts 0) (text_at texts 1) answer
 IsDone (Set set) texts answer = answer ≡ lines (set_lines (set_of_name set)) status.Ok
 
 -- ---- what a command leaves

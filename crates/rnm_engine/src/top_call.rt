@@ -108,7 +108,16 @@ fn do_job<K: Sink>(
         Job::Run { .. } => run(alloc, text_at(texts, 0), sink),
         Job::Decode { set, residues } => Ok(decode(&Moduli::of(*set), residues, sink)),
         Job::Encode { set, x } => Ok(encode(&Moduli::of(*set), *x, sink)),
-        Job::Mean { .. } => mean(alloc, text_at(texts, 0), sink),
+        Job::Mean { set, steps, .. } => {
+            mean(
+                alloc,
+                text_at(texts, 0),
+                text_at(texts, 1),
+                *set,
+                *steps,
+                sink,
+            )
+        }
         Job::Set { set } => Ok(describe(&Moduli::of(*set), sink)),
     }
 }

@@ -2,7 +2,9 @@
 use Rattle.std.proofs.Common.{◌≡◌, subst, ℕ, zero, suc, List, [], ◌∷◌, Some, None, Bool, true, false, refl, ap, sym, ◌∙◌, arith, nat_eq, if◌then◌else◌}
 use Rattle.source_lexer.specs.declared.token.TokenKind.{TokenKind}
 use Rattle.source_lexer.specs.declared.token.TokenKind.TheVariants as kind
-use Rattle.source_parser.specs.Terminals.{Terminal}
+use Rattle.source_tree.specs.declared.expression.Operator.{Operator}
+use Rattle.source_tree.specs.declared.expression.Expr.{Expr, Binary}
+use Rattle.source_parser.specs.Terminals.{Terminal, fixed}
 use Rattle.source_parser.specs.Grammar as g
 use Rattle.source_parser.specs.Grammar.{Level, Joins, plus, minus, times, divided, remainder, ReadsExpr, number, name, element, negated, bracketed, one_factor, multiplied, one_term, added, weight, ReadsWithin, ReadsOutermost}
 use Rattle.source_parser.specs.Grammar.{Compares, less, less_equal, greater, greater_equal, equal, not_equal, ReadsCondition, condition, ReadsPlace, variable, element_of, ReadsAll, none, and_more, ReadsCommas, last, comma, ReadsListed, nothing, things}
@@ -10,7 +12,7 @@ use Rattle.source_parser.specs.Grammar.{ReadsStatement, assign, print, read, if_
 use Rattle.source_parser.specs.Wants.{Want, token, inner, close, fresh, outermost, sum, sum_tail, term, term_tail, factor, index, comparison, listed, commas, place_tail, after_name, statements, otherwise, declarations, bound, params, more_params, locals}
 use Rattle.source_parser.specs.Wants.{Move, stuck, deep, on, step, price, moved, number_of}
 use Rattle.source_parser.proofs.KindNumbers.{plain, same_kind}
-use Rattle.source_parser.proofs.Completions.{HasTree, Followed, IsPlain, Sign, Fits}
+use Rattle.source_parser.proofs.Completions.{HasTree, FollowedWithin, Followed, Longer, IsPlain, Sign, Fits}
 
 abbrev pub Backs : ℕ → TokenKind → List Want → ℕ → ℕ → Move → Type 0
 Backs width k s d w stuck = Unit {0}
@@ -40,17 +42,31 @@ back_factor width kind.LeftParen s d (suc w) = λ terminals f.
     record { rest = f.behind.rest; spare = f.spare; reads = record { tree = _; reads = bracketed (rw e at f.reads.reads) }; weighs = omega (arith, h, k); behind = f.behind.behind }
 back_factor width k s d w = tt
 
+-- Parts of a level with operators between them: a first part and what makes it longer; and an operator, the part that it
+-- joins, and what makes them longer.
+module _ {level part : Level} {After : ℕ → List Terminal → Type 0} {w : ℕ} {terminals : List Terminal} where
+  joined_parts : ((e : Expr) (rest : List Terminal) → ReadsExpr part terminals e rest → ReadsExpr level terminals e rest)
+      → FollowedWithin (HasTree (ReadsExpr part)) (FollowedWithin (Longer (ReadsExpr level) (ReadsExpr level)) After) w terminals → FollowedWithin (HasTree (ReadsExpr level)) After w terminals
+  joined_parts one f =
+      let h = f.weighs in
+      let k = f.behind.weighs in
+      record { rest = f.behind.rest; spare = f.behind.spare; reads = f.behind.reads terminals f.reads.tree (one f.reads.tree f.rest f.reads.reads); weighs = omega (arith, h, k); behind = f.behind.behind }
+
+  operator_and_part : {sign : TokenKind} {op : Operator}
+      → ((old rest : List Terminal) (left right : Expr) → ReadsExpr level old left (fixed sign 0 ∷ terminals) → ReadsExpr part terminals right rest → ReadsExpr level old (Binary left op right 0) rest)
+      → weight (fixed sign 0 ∷ terminals) ≡ suc (weight terminals)
+      → FollowedWithin (HasTree (ReadsExpr part)) (FollowedWithin (Longer (ReadsExpr level) (ReadsExpr level)) After) w terminals
+      → FollowedWithin (Longer (ReadsExpr level) (ReadsExpr level)) After (suc w) (fixed sign 0 ∷ terminals)
+  operator_and_part joins heavy f =
+      let h = f.weighs in
+      let k = f.behind.weighs in
+      record { rest = f.behind.rest; spare = f.behind.spare; reads = λ old e r. f.behind.reads old _ (joins old f.rest e f.reads.tree r f.reads.reads); weighs = omega (arith, h, k, heavy); behind = f.behind.behind }
+
 term_of : (width : ℕ) (s : List Want) (d w : ℕ) (terminals : List Terminal) → Fits width (factor ∷ term_tail ∷ s) d w terminals → Fits width (term ∷ s) d w terminals
-term_of width s d w terminals f =
-    let h = f.weighs in
-    let k = f.behind.weighs in
-    record { rest = f.behind.rest; spare = f.behind.spare; reads = f.behind.reads terminals f.reads.tree (one_factor f.reads.reads); weighs = omega (arith, h, k); behind = f.behind.behind }
+term_of width s d w terminals f = joined_parts {After = Fits width s d} (λ e rest r. one_factor r) f
 
 sum_of : (width : ℕ) (s : List Want) (d w : ℕ) (terminals : List Terminal) → Fits width (term ∷ sum_tail ∷ s) d w terminals → Fits width (sum ∷ s) d w terminals
-sum_of width s d w terminals f =
-    let h = f.weighs in
-    let k = f.behind.weighs in
-    record { rest = f.behind.rest; spare = f.behind.spare; reads = f.behind.reads terminals f.reads.tree (one_term f.reads.reads); weighs = omega (arith, h, k); behind = f.behind.behind }
+sum_of width s d w terminals f = joined_parts {After = Fits width s d} (λ e rest r. one_term r) f
 
 outermost_of : (width : ℕ) (s : List Want) (d w : ℕ) (terminals : List Terminal) → Fits width (sum ∷ fresh ∷ s) d width terminals → Fits width (outermost ∷ s) d w terminals
 outermost_of width s d w terminals f =
@@ -290,34 +306,19 @@ back_comparison width k s d w = tt
 -- an operator of a sum or of a term, and what follows it
 back_sum_tail : (width : ℕ) (k : TokenKind) (s : List Want) (d w : ℕ) → Backs width k s d w (step width k s d w) → Backs width k (sum_tail ∷ s) d w (step width k (sum_tail ∷ s) d w)
 back_sum_tail width kind.Plus s d zero h = tt
-back_sum_tail width kind.Plus s d (suc w) h = λ terminals f.
-    let h = f.weighs in
-    let k = f.behind.weighs in
-    record { rest = f.behind.rest; spare = f.behind.spare; reads = λ old e r. f.behind.reads old _ (added r plus f.reads.reads); weighs = omega (arith, h, k); behind = f.behind.behind }
+back_sum_tail width kind.Plus s d (suc w) h = λ terminals f. operator_and_part {After = Fits width s d} (λ old rest left right r q. added r plus q) refl f
 back_sum_tail width kind.Minus s d zero h = tt
-back_sum_tail width kind.Minus s d (suc w) h = λ terminals f.
-    let h = f.weighs in
-    let k = f.behind.weighs in
-    record { rest = f.behind.rest; spare = f.behind.spare; reads = λ old e r. f.behind.reads old _ (added r minus f.reads.reads); weighs = omega (arith, h, k); behind = f.behind.behind }
+back_sum_tail width kind.Minus s d (suc w) h = λ terminals f. operator_and_part {After = Fits width s d} (λ old rest left right r q. added r minus q) refl f
 back_sum_tail width k s d w h =
     lifts width k s d w (sum_tail ∷ s) d w (λ terminals f. record { rest = terminals; spare = w; reads = λ old e r. record { tree = e; reads = r }; weighs = refl; behind = f }) (step width k s d w) h
 
 back_term_tail : (width : ℕ) (k : TokenKind) (s : List Want) (d w : ℕ) → Backs width k s d w (step width k s d w) → Backs width k (term_tail ∷ s) d w (step width k (term_tail ∷ s) d w)
 back_term_tail width kind.Star s d zero h = tt
-back_term_tail width kind.Star s d (suc w) h = λ terminals f.
-    let h = f.weighs in
-    let k = f.behind.weighs in
-    record { rest = f.behind.rest; spare = f.behind.spare; reads = λ old e r. f.behind.reads old _ (multiplied r times f.reads.reads); weighs = omega (arith, h, k); behind = f.behind.behind }
+back_term_tail width kind.Star s d (suc w) h = λ terminals f. operator_and_part {After = Fits width s d} (λ old rest left right r q. multiplied r times q) refl f
 back_term_tail width kind.Div s d zero h = tt
-back_term_tail width kind.Div s d (suc w) h = λ terminals f.
-    let h = f.weighs in
-    let k = f.behind.weighs in
-    record { rest = f.behind.rest; spare = f.behind.spare; reads = λ old e r. f.behind.reads old _ (multiplied r divided f.reads.reads); weighs = omega (arith, h, k); behind = f.behind.behind }
+back_term_tail width kind.Div s d (suc w) h = λ terminals f. operator_and_part {After = Fits width s d} (λ old rest left right r q. multiplied r divided q) refl f
 back_term_tail width kind.Mod s d zero h = tt
-back_term_tail width kind.Mod s d (suc w) h = λ terminals f.
-    let h = f.weighs in
-    let k = f.behind.weighs in
-    record { rest = f.behind.rest; spare = f.behind.spare; reads = λ old e r. f.behind.reads old _ (multiplied r remainder f.reads.reads); weighs = omega (arith, h, k); behind = f.behind.behind }
+back_term_tail width kind.Mod s d (suc w) h = λ terminals f. operator_and_part {After = Fits width s d} (λ old rest left right r q. multiplied r remainder q) refl f
 back_term_tail width k s d w h =
     lifts width k s d w (term_tail ∷ s) d w (λ terminals f. record { rest = terminals; spare = w; reads = λ old e r. record { tree = e; reads = r }; weighs = refl; behind = f }) (step width k s d w) h
 

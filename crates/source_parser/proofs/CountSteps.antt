@@ -225,33 +225,15 @@ module _ (depth width : ℕ) where
   token_placed kind.Star c x w n a l p = absurd l
   token_placed kind.Div c x w n a l p = absurd l
   token_placed kind.Mod c x w n a l p = absurd l
-  token_placed kind.Becomes c outside w n a l p = tt
-  token_placed kind.Becomes c after_a_name w n a l p = tt
-  token_placed kind.Becomes c (inside m) w n a l p = tt
-  token_placed kind.To c outside w n a l p = tt
-  token_placed kind.To c after_a_name w n a l p = tt
-  token_placed kind.To c (inside m) w n a l p = tt
-  token_placed kind.Colon c outside w n a l p = tt
-  token_placed kind.Colon c after_a_name w n a l p = tt
-  token_placed kind.Colon c (inside m) w n a l p = tt
-  token_placed kind.Dots c outside w n a l p = tt
-  token_placed kind.Dots c after_a_name w n a l p = tt
-  token_placed kind.Dots c (inside m) w n a l p = tt
-  token_placed kind.Semicolon c outside w n a l p = tt
-  token_placed kind.Semicolon c after_a_name w n a l p = tt
-  token_placed kind.Semicolon c (inside m) w n a l p = tt
-  token_placed kind.Then c outside w n a l p = tt
-  token_placed kind.Then c after_a_name w n a l p = tt
-  token_placed kind.Then c (inside m) w n a l p = tt
-  token_placed kind.Do c outside w n a l p = tt
-  token_placed kind.Do c after_a_name w n a l p = tt
-  token_placed kind.Do c (inside m) w n a l p = tt
-  token_placed kind.Limit c outside w n a l p = tt
-  token_placed kind.Limit c after_a_name w n a l p = tt
-  token_placed kind.Limit c (inside m) w n a l p = tt
-  token_placed kind.End c outside w n a l p = tt
-  token_placed kind.End c after_a_name w n a l p = tt
-  token_placed kind.End c (inside m) w n a l p = tt
+  token_placed kind.Becomes c x w n a l p = tt
+  token_placed kind.To c x w n a l p = tt
+  token_placed kind.Colon c x w n a l p = tt
+  token_placed kind.Dots c x w n a l p = tt
+  token_placed kind.Semicolon c x w n a l p = tt
+  token_placed kind.Then c x w n a l p = tt
+  token_placed kind.Do c x w n a l p = tt
+  token_placed kind.Limit c x w n a l p = tt
+  token_placed kind.End c x w n a l p = tt
   token_placed kind.Number out outside w n a l p = tt
   token_placed kind.Number out x w n a l p = absurd p
   token_placed j c outside w n a l p = omega arith
@@ -292,55 +274,36 @@ module _ (depth width : ℕ) where
   to_done P done x w a p h = absurd p
   to_done P c x w a p h = absurd a
 
+  abbrev Kept : List Want → TokenKind → ℕ → ℕ → ℕ → Standing → Type 0
+  Kept s k d w b x = Keeps (step width k s d w) (after b x k)
+
   pub step_leads : (s : List Want) (k : TokenKind) (d w b : ℕ) (x : Standing) (c : Class) → Chain c s → Placed width c x w → d + closes s ≡ depth → closes s ≡ b
       → Keeps (step width k s d w) (after b x k)
   step_leads [] k d w b x c h p e f = tt
   step_leads (token j ∷ s) k d w b x c h p e f = token_leads j k s d w b x c h.0 h.1 h.2 p e f (nat_eq (number_of j) (number_of k)) refl
-  step_leads (inner kind.RightParen ∷ s) k d w b x c h p e f =
-      to_during (λ (y : Standing). Keeps (step width k (inner kind.RightParen ∷ s) d w) (after b y k)) c x w h.0 p (λ n q. at_paren k s d w b n q h.2 e f)
-  step_leads (inner kind.RightBracket ∷ s) k d w b x c h p e f =
-      to_during (λ (y : Standing). Keeps (step width k (inner kind.RightBracket ∷ s) d w) (after b y k)) c x w h.0 p (λ n q. at_bracket k s d w b n q h.2 e f)
+  step_leads (inner kind.RightParen ∷ s) k d w b x c h p e f = to_during (Kept (inner kind.RightParen ∷ s) k d w b) c x w h.0 p (λ n q. at_paren k s d w b n q h.2 e f)
+  step_leads (inner kind.RightBracket ∷ s) k d w b x c h p e f = to_during (Kept (inner kind.RightBracket ∷ s) k d w b) c x w h.0 p (λ n q. at_bracket k s d w b n q h.2 e f)
   step_leads (inner j ∷ s) k d w b x c h p e f = absurd h.1
-  step_leads (close ∷ s) k d w b x c h p e f =
-      to_out (λ (y : Standing). Keeps (step width k (close ∷ s) d w) (after b y k)) c x w h.0 p (at_close k s d w b h.2 e f)
-  step_leads (fresh ∷ s) k d w b x c h p e f =
-      to_during (λ (y : Standing). Keeps (step width k (fresh ∷ s) d w) (after b y k)) c x w h.0 p (λ n q. step_leads s k d width b (inside n) done h.2 (omega (arith, q)) e f)
-  step_leads (outermost ∷ s) k d w b x c h p e f =
-      to_start (λ (y : Standing). Keeps (step width k (outermost ∷ s) d w) (after b y k)) c x w h.0 p (at_outermost k s d w b h.2 e f)
-  step_leads (sum ∷ s) k d w b x c h p e f =
-      to_during (λ (y : Standing). Keeps (step width k (sum ∷ s) d w) (after b y k)) c x w h.0 p (λ n q. at_sum k s d w b n q h.2 e f)
-  step_leads (term ∷ s) k d w b x c h p e f =
-      to_during (λ (y : Standing). Keeps (step width k (term ∷ s) d w) (after b y k)) c x w h.0 p (λ n q. at_term k s d w b n q h.2 e f)
-  step_leads (factor ∷ s) k d w b x c h p e f =
-      to_during (λ (y : Standing). Keeps (step width k (factor ∷ s) d w) (after b y k)) c x w h.0 p (λ n q. at_factor k s d w b n q h.2 e f)
-  step_leads (sum_tail ∷ s) k d w b x c h p e f =
-      to_during (λ (y : Standing). Keeps (step width k (sum_tail ∷ s) d w) (after b y k)) c x w h.0 p (λ n q. at_sum_tail k s d w b n q h.2 e f (step_leads s k d w b (inside n) during h.2 q e f))
-  step_leads (term_tail ∷ s) k d w b x c h p e f =
-      to_during (λ (y : Standing). Keeps (step width k (term_tail ∷ s) d w) (after b y k)) c x w h.0 p (λ n q. at_term_tail k s d w b n q h.2 e f (step_leads s k d w b (inside n) during h.2 q e f))
-  step_leads (index ∷ s) k d w b x c h p e f =
-      to_during (λ (y : Standing). Keeps (step width k (index ∷ s) d w) (after b y k)) c x w h.0 p (λ n q. at_index k s d w b n q h.2 e f (step_leads s k d w b (inside n) during h.2 q e f))
-  step_leads (comparison ∷ s) k d w b x c h p e f =
-      to_done (λ (y : Standing). Keeps (step width k (comparison ∷ s) d w) (after b y k)) c x w h.0 p (λ n q. at_comparison k s d w b n h.2 e f)
-  step_leads (listed ∷ s) k d w b x c h p e f =
-      to_start (λ (y : Standing). Keeps (step width k (listed ∷ s) d w) (after b y k)) c x w h.0 p (at_listed k s d w b h.2 e f)
-  step_leads (commas ∷ s) k d w b x c h p e f =
-      to_done (λ (y : Standing). Keeps (step width k (commas ∷ s) d w) (after b y k)) c x w h.0 p (λ n q. at_commas k s d w b n q h.2 e f)
-  step_leads (place_tail ∷ s) k d w b x c h p e f =
-      to_named (λ (y : Standing). Keeps (step width k (place_tail ∷ s) d w) (after b y k)) c x w h.0 p (at_place k s d w b h.2 e f (step_leads s k d width b after_a_name anywhere h.2 (omega arith) e f))
-  step_leads (after_name ∷ s) k d w b x c h p e f =
-      to_named (λ (y : Standing). Keeps (step width k (after_name ∷ s) d w) (after b y k)) c x w h.0 p (at_name k s d w b h.2 e f)
-  step_leads (statements ∷ s) k d w b x c h p e f =
-      to_out (λ (y : Standing). Keeps (step width k (statements ∷ s) d w) (after b y k)) c x w h.0 p (at_statements k s d w b h.2 e f (step_leads s k d width b outside out h.2 tt e f))
-  step_leads (otherwise ∷ s) k d w b x c h p e f =
-      to_out (λ (y : Standing). Keeps (step width k (otherwise ∷ s) d w) (after b y k)) c x w h.0 p (at_else k s d w b h.2 e f (step_leads s k d width b outside out h.2 tt e f))
-  step_leads (declarations ∷ s) k d w b x c h p e f =
-      to_out (λ (y : Standing). Keeps (step width k (declarations ∷ s) d w) (after b y k)) c x w h.0 p (at_declarations k s d w b h.1 h.2 e f (step_leads s k d width b outside out h.2 tt e f))
-  step_leads (bound ∷ s) k d w b x c h p e f =
-      to_out (λ (y : Standing). Keeps (step width k (bound ∷ s) d w) (after b y k)) c x w h.0 p (at_bound k s d w b h.2 e f)
-  step_leads (params ∷ s) k d w b x c h p e f =
-      to_start (λ (y : Standing). Keeps (step width k (params ∷ s) d w) (after b y k)) c x w h.0 p (at_params k s d w b h.2 e f)
-  step_leads (more_params ∷ s) k d w b x c h p e f =
-      to_out (λ (y : Standing). Keeps (step width k (more_params ∷ s) d w) (after b y k)) c x w h.0 p (at_more_params k s d w b h.2 e f)
+  step_leads (close ∷ s) k d w b x c h p e f = to_out (Kept (close ∷ s) k d w b) c x w h.0 p (at_close k s d w b h.2 e f)
+  step_leads (fresh ∷ s) k d w b x c h p e f = to_during (Kept (fresh ∷ s) k d w b) c x w h.0 p (λ n q. step_leads s k d width b (inside n) done h.2 (omega (arith, q)) e f)
+  step_leads (outermost ∷ s) k d w b x c h p e f = to_start (Kept (outermost ∷ s) k d w b) c x w h.0 p (at_outermost k s d w b h.2 e f)
+  step_leads (sum ∷ s) k d w b x c h p e f = to_during (Kept (sum ∷ s) k d w b) c x w h.0 p (λ n q. at_sum k s d w b n q h.2 e f)
+  step_leads (term ∷ s) k d w b x c h p e f = to_during (Kept (term ∷ s) k d w b) c x w h.0 p (λ n q. at_term k s d w b n q h.2 e f)
+  step_leads (factor ∷ s) k d w b x c h p e f = to_during (Kept (factor ∷ s) k d w b) c x w h.0 p (λ n q. at_factor k s d w b n q h.2 e f)
+  step_leads (sum_tail ∷ s) k d w b x c h p e f = to_during (Kept (sum_tail ∷ s) k d w b) c x w h.0 p (λ n q. at_sum_tail k s d w b n q h.2 e f (step_leads s k d w b (inside n) during h.2 q e f))
+  step_leads (term_tail ∷ s) k d w b x c h p e f = to_during (Kept (term_tail ∷ s) k d w b) c x w h.0 p (λ n q. at_term_tail k s d w b n q h.2 e f (step_leads s k d w b (inside n) during h.2 q e f))
+  step_leads (index ∷ s) k d w b x c h p e f = to_during (Kept (index ∷ s) k d w b) c x w h.0 p (λ n q. at_index k s d w b n q h.2 e f (step_leads s k d w b (inside n) during h.2 q e f))
+  step_leads (comparison ∷ s) k d w b x c h p e f = to_done (Kept (comparison ∷ s) k d w b) c x w h.0 p (λ n q. at_comparison k s d w b n h.2 e f)
+  step_leads (listed ∷ s) k d w b x c h p e f = to_start (Kept (listed ∷ s) k d w b) c x w h.0 p (at_listed k s d w b h.2 e f)
+  step_leads (commas ∷ s) k d w b x c h p e f = to_done (Kept (commas ∷ s) k d w b) c x w h.0 p (λ n q. at_commas k s d w b n q h.2 e f)
+  step_leads (place_tail ∷ s) k d w b x c h p e f = to_named (Kept (place_tail ∷ s) k d w b) c x w h.0 p (at_place k s d w b h.2 e f (step_leads s k d width b after_a_name anywhere h.2 (omega arith) e f))
+  step_leads (after_name ∷ s) k d w b x c h p e f = to_named (Kept (after_name ∷ s) k d w b) c x w h.0 p (at_name k s d w b h.2 e f)
+  step_leads (statements ∷ s) k d w b x c h p e f = to_out (Kept (statements ∷ s) k d w b) c x w h.0 p (at_statements k s d w b h.2 e f (step_leads s k d width b outside out h.2 tt e f))
+  step_leads (otherwise ∷ s) k d w b x c h p e f = to_out (Kept (otherwise ∷ s) k d w b) c x w h.0 p (at_else k s d w b h.2 e f (step_leads s k d width b outside out h.2 tt e f))
+  step_leads (declarations ∷ s) k d w b x c h p e f = to_out (Kept (declarations ∷ s) k d w b) c x w h.0 p (at_declarations k s d w b h.1 h.2 e f (step_leads s k d width b outside out h.2 tt e f))
+  step_leads (bound ∷ s) k d w b x c h p e f = to_out (Kept (bound ∷ s) k d w b) c x w h.0 p (at_bound k s d w b h.2 e f)
+  step_leads (params ∷ s) k d w b x c h p e f = to_start (Kept (params ∷ s) k d w b) c x w h.0 p (at_params k s d w b h.2 e f)
+  step_leads (more_params ∷ s) k d w b x c h p e f = to_out (Kept (more_params ∷ s) k d w b) c x w h.0 p (at_more_params k s d w b h.2 e f)
   step_leads (locals ∷ s) k d w b x c h p e f =
       let least = loose c x w p in
       at_locals k s d w b x h.2 e f (step_leads s k d width b x anywhere h.2 least e f)

@@ -1,8 +1,8 @@
 -- Where kinds end, by what is wanted of them, they stop to be the prefix of a program, or nest too deep.
-use Rattle.std.proofs.Common.{◌≡◌, ℕ, suc, ◌-◌, List, [], ◌∷◌, ◌++◌, length, take, refl, ap, sym, subst, ◌∙◌, arith, append_assoc, length-append}
+use Rattle.std.proofs.Common.{◌≡◌, ◌⊎◌, inl, inr, ℕ, suc, ◌-◌, Bool, true, false, if◌then◌else◌, List, [], ◌∷◌, ◌++◌, length, take, refl, ap, sym, subst, ◌∙◌, arith, append_assoc, length-append}
 use Rattle.source_lexer.specs.declared.token.TokenKind.{TokenKind}
 use Rattle.source_parser.specs.Prefixes.{SpellsKinds, IsPrefix, IsPrefixWithin, StopsAt, DeepAt}
-use Rattle.source_parser.specs.Wants.{Want, token, inner, fresh, sum_tail, term_tail, index, place_tail, statements, otherwise, declarations, locals, Move, stuck, deep, on, step, finish, run, Outcome, spelled, stopped, too_deep}
+use Rattle.source_parser.specs.Wants.{Want, declarations, statements, may_end, Move, stuck, deep, on, step, finish, run, Outcome, spelled, stopped, too_deep}
 use Rattle.source_parser.proofs.Forward.{reads_program}
 use Rattle.source_parser.proofs.KindNumbers.{plains, kinds_plain}
 use Rattle.source_parser.proofs.Completions.{Fits, completes}
@@ -33,7 +33,7 @@ shape_on width' k ks s d w stuck h e = absurd h
 shape_on width' k ks s d w deep h e = absurd cc
 shape_on width' k ks s d w (on s' d' w') h e = (d', w', rw h e)
 
--- one kind more in prefix
+-- one kind more in front
 pub one_more : (width : ℕ) (s : List Want) (d w : ℕ) (k : TokenKind) (s' : List Want) (d' w' : ℕ) (before : List TokenKind) (wants : List Want) (depth spare : ℕ)
     → step width k s d w ≡ on s' d' w' → Reached width s' d' w' before wants depth spare → Reached width s d w (k ∷ before) wants depth spare
 one_more width s d w k s' d' w' before wants depth spare e r =
@@ -49,31 +49,47 @@ one_more width s d w k s' d' w' before wants depth spare e r =
           r.shape width' next.0 next.1 more next.2;
     }
 
--- ---- kinds that stop
+-- ---- where kinds stop, nest too deep or are all wanted
+-- no program goes on with the first kind, or ends there; or that kind nests too deep
 abbrev IsStuck : ℕ → List TokenKind → List Want → ℕ → ℕ → Type 0
 IsStuck width [] s d w = finish s ≡ stopped []
 IsStuck width (k ∷ ks) s d w = step width k s d w ≡ stuck
 
-record Stop (width : ℕ) (s : List Want) (d w : ℕ) (ks rest : List TokenKind) : Type 0 where
+abbrev IsDeep : ℕ → List TokenKind → List Want → ℕ → ℕ → Type 0
+IsDeep width [] s d w = ⊥
+IsDeep width (k ∷ ks) s d w = step width k s d w ≡ deep
+
+-- what an outcome tells of what is wanted where it comes
+abbrev Ends : ℕ → List Want → ℕ → ℕ → Outcome → Type 0
+Ends width s d w spelled = Unit {0}
+Ends width s d w (stopped rest) = IsStuck width rest s d w
+Ends width s d w (too_deep rest) = IsDeep width rest s d w
+
+abbrev rest_of : Outcome → List TokenKind
+rest_of spelled = []
+rest_of (stopped rest) = rest
+rest_of (too_deep rest) = rest
+
+-- Kinds come to an outcome after some of them, at the rest that it tells.
+record Met (width : ℕ) (s : List Want) (d w : ℕ) (ks : List TokenKind) (outcome : Outcome) : Type 0 where
   before : List TokenKind
   wants : List Want
   depth : ℕ
   spare : ℕ
-  parts : ks ≡ before ++ rest
+  parts : ks ≡ before ++ rest_of outcome
   reached : Reached width s d w before wants depth spare
-  is_stuck : IsStuck width rest wants depth spare
+  ends : Ends width wants depth spare outcome
 
-same_rest : {a b : List TokenKind} → stopped a ≡ stopped b → a ≡ b
-same_rest e = cc
+met_at_once : (width : ℕ) (s : List Want) (d w : ℕ) (outcome : Outcome) → Ends width s d w outcome → Met width s d w (rest_of outcome) outcome
+met_at_once width s d w outcome h = record { before = []; wants = s; depth = d; spare = w; parts = refl; reached = at_once width s d w; ends = h }
 
-stop_move : (width : ℕ) (s : List Want) (d w : ℕ) (k : TokenKind) (ks rest : List TokenKind)
-    → ((s' : List Want) (d' w' : ℕ) → run width ks s' d' w' ≡ stopped rest → Stop width s' d' w' ks rest)
-    → (m : Move) → step width k s d w ≡ m → Goes width k ks m ≡ stopped rest → Stop width s d w (k ∷ ks) rest
-stop_move width s d w k ks rest ih stuck e h =
-    rw (sym (same_rest h)) (record { before = []; wants = s; depth = d; spare = w; parts = refl; reached = at_once width s d w; is_stuck = e })
-stop_move width s d w k ks rest ih deep e h = absurd cc
-stop_move width s d w k ks rest ih (on s' d' w') e h =
-    let next = ih s' d' w' h in
+met_after : (width : ℕ) (s : List Want) (d w : ℕ) (k : TokenKind) (ks : List TokenKind)
+    → ((s' : List Want) (d' w' : ℕ) → Met width s' d' w' ks (run width ks s' d' w'))
+    → (m : Move) → step width k s d w ≡ m → Met width s d w (k ∷ ks) (Goes width k ks m)
+met_after width s d w k ks later stuck e = met_at_once width s d w (stopped (k ∷ ks)) e
+met_after width s d w k ks later deep e = met_at_once width s d w (too_deep (k ∷ ks)) e
+met_after width s d w k ks later (on s' d' w') e =
+    let next = later s' d' w' in
     record {
       before = k ∷ next.before;
       wants = next.wants;
@@ -81,83 +97,24 @@ stop_move width s d w k ks rest ih (on s' d' w') e h =
       spare = next.spare;
       parts = ap (λ (xs : List TokenKind). k ∷ xs) next.parts;
       reached = one_more width s d w k s' d' w' next.before next.wants next.depth next.spare e next.reached;
-      is_stuck = next.is_stuck;
+      ends = next.ends;
     }
 
-finished : (s : List Want) (rest : List TokenKind) → finish s ≡ stopped rest → rest ≡ []
-finished [] rest h = absurd cc
-finished (token k ∷ s) rest h = cc
-finished (inner k ∷ s) rest h = cc
-finished (fresh ∷ s) rest h = finished s rest h
-finished (sum_tail ∷ s) rest h = finished s rest h
-finished (term_tail ∷ s) rest h = finished s rest h
-finished (place_tail ∷ s) rest h = finished s rest h
-finished (declarations ∷ s) rest h = finished s rest h
-finished (locals ∷ s) rest h = finished s rest h
-finished (index ∷ s) rest h = finished s rest h
-finished (statements ∷ s) rest h = finished s rest h
-finished (otherwise ∷ s) rest h = finished s rest h
-finished (want ∷ s) rest h = cc
+finishes_by : (may : Bool) (outcome : Outcome) → (outcome ≡ spelled) ⊎ (outcome ≡ stopped []) → ((if may then outcome else stopped []) ≡ spelled) ⊎ ((if may then outcome else stopped []) ≡ stopped [])
+finishes_by true outcome h = h
+finishes_by false outcome h = inr refl
 
-stop : (width : ℕ) (ks : List TokenKind) (s : List Want) (d w : ℕ) (rest : List TokenKind) → run width ks s d w ≡ stopped rest → Stop width s d w ks rest
-stop width [] s d w rest h =
-    let none = finished s rest h in
-    rw none (record { before = []; wants = s; depth = d; spare = w; parts = refl; reached = at_once width s d w; is_stuck = rw none at h })
-stop width (k ∷ ks) s d w rest h = stop_move width s d w k ks rest (λ s' d' w'. stop width ks s' d' w' rest) (step width k s d w) refl h
+finishes : (s : List Want) → (finish s ≡ spelled) ⊎ (finish s ≡ stopped [])
+finishes [] = inl refl
+finishes (want ∷ s) = finishes_by (may_end want) (finish s) (finishes s)
 
--- ---- kinds that nest too deep
-record Deepened (width : ℕ) (s : List Want) (d w : ℕ) (ks rest : List TokenKind) : Type 0 where
-  before : List TokenKind
-  wants : List Want
-  depth : ℕ
-  spare : ℕ
-  parts : ks ≡ before ++ rest
-  reached : Reached width s d w before wants depth spare
-  kind : TokenKind
-  behind : List TokenKind
-  begins : rest ≡ kind ∷ behind
-  is_deep : step width kind wants depth spare ≡ deep
+met_at_end : (width : ℕ) (s : List Want) (d w : ℕ) (outcome : Outcome) → finish s ≡ outcome → (outcome ≡ spelled) ⊎ (outcome ≡ stopped []) → Met width s d w [] outcome
+met_at_end width s d w outcome e (inl all) = subst (Met width s d w []) (sym all) (met_at_once width s d w spelled tt)
+met_at_end width s d w outcome e (inr none) = subst (Met width s d w []) (sym none) (met_at_once width s d w (stopped []) (e ∙ none))
 
-deep_move : (width : ℕ) (s : List Want) (d w : ℕ) (k : TokenKind) (ks rest : List TokenKind)
-    → ((s' : List Want) (d' w' : ℕ) → run width ks s' d' w' ≡ too_deep rest → Deepened width s' d' w' ks rest)
-    → (m : Move) → step width k s d w ≡ m → Goes width k ks m ≡ too_deep rest → Deepened width s d w (k ∷ ks) rest
-deep_move width s d w k ks rest ih stuck e h = absurd cc
-deep_move width s d w k ks rest ih deep e h =
-    let same : k ∷ ks ≡ rest = cc in
-    rw (sym same) (record { before = []; wants = s; depth = d; spare = w; parts = refl; reached = at_once width s d w; kind = k; behind = ks; begins = refl; is_deep = e })
-deep_move width s d w k ks rest ih (on s' d' w') e h =
-    let next = ih s' d' w' h in
-    record {
-      before = k ∷ next.before;
-      wants = next.wants;
-      depth = next.depth;
-      spare = next.spare;
-      parts = ap (λ (xs : List TokenKind). k ∷ xs) next.parts;
-      reached = one_more width s d w k s' d' w' next.before next.wants next.depth next.spare e next.reached;
-      kind = next.kind;
-      behind = next.behind;
-      begins = next.begins;
-      is_deep = next.is_deep;
-    }
-
-not_finished : (s : List Want) (rest : List TokenKind) → finish s ≡ too_deep rest → ⊥
-not_finished [] rest h = absurd cc
-not_finished (token k ∷ s) rest h = absurd cc
-not_finished (inner k ∷ s) rest h = absurd cc
-not_finished (fresh ∷ s) rest h = not_finished s rest h
-not_finished (sum_tail ∷ s) rest h = not_finished s rest h
-not_finished (term_tail ∷ s) rest h = not_finished s rest h
-not_finished (place_tail ∷ s) rest h = not_finished s rest h
-not_finished (declarations ∷ s) rest h = not_finished s rest h
-not_finished (locals ∷ s) rest h = not_finished s rest h
-not_finished (index ∷ s) rest h = not_finished s rest h
-not_finished (statements ∷ s) rest h = not_finished s rest h
-not_finished (otherwise ∷ s) rest h = not_finished s rest h
-not_finished (want ∷ s) rest h = absurd cc
-
-deepens : (width : ℕ) (ks : List TokenKind) (s : List Want) (d w : ℕ) (rest : List TokenKind) → run width ks s d w ≡ too_deep rest → Deepened width s d w ks rest
-deepens width [] s d w rest h = absurd (not_finished s rest h)
-deepens width (k ∷ ks) s d w rest h = deep_move width s d w k ks rest (λ s' d' w'. deepens width ks s' d' w' rest) (step width k s d w) refl h
+meets : (width : ℕ) (ks : List TokenKind) (s : List Want) (d w : ℕ) → Met width s d w ks (run width ks s d w)
+meets width [] s d w = met_at_end width s d w (finish s) refl (finishes s)
+meets width (k ∷ ks) s d w = met_after width s d w k ks (λ s' d' w'. meets width ks s' d' w') (step width k s d w) refl
 
 -- ---- programs
 program_of : (width depth w : ℕ) (ks : List TokenKind) → Fits width (declarations ∷ statements ∷ []) depth w (plains ks) → SpellsKinds depth width ks
@@ -171,6 +128,12 @@ program_of width depth w ks f = record {
 -- kinds of a program are all wanted
 pub runs : {depth width : ℕ} {ks : List TokenKind} → SpellsKinds depth width ks → run width ks (declarations ∷ statements ∷ []) depth width ≡ spelled
 runs {depth} {width} {ks} p = subst (λ (xs : List TokenKind). run width xs (declarations ∷ statements ∷ []) depth width ≡ spelled) p.same (reads_program width p.spells)
+
+-- one of them apart from those before and after it
+runs_through : {depth width : ℕ} (before : List TokenKind) (k : TokenKind) (rest : List TokenKind) → SpellsKinds depth width (before ++ k ∷ [] ++ rest)
+    → run width (before ++ (k ∷ rest)) (declarations ∷ statements ∷ []) depth width ≡ spelled
+runs_through {depth} {width} before k rest p =
+    subst (λ (xs : List TokenKind). run width xs (declarations ∷ statements ∷ []) depth width ≡ spelled) (append_assoc before (k ∷ []) rest) (runs p)
 
 take_before : (before rest : List TokenKind) → take (length before) (before ++ rest) ≡ before
 take_before [] rest = refl
@@ -199,9 +162,7 @@ module _ (depth width : ℕ) where
       → step width k wants d w ≡ stuck → IsPrefix (before ++ k ∷ []) → ⊥
   no_prefix before wants d w k r e prefix =
       let p = prefix.program in
-      let run_all : run p.width (before ++ k ∷ [] ++ prefix.rest) (declarations ∷ statements ∷ []) p.depth p.width ≡ spelled = runs p.spells in
-      let same : before ++ k ∷ [] ++ prefix.rest ≡ before ++ (k ∷ prefix.rest) = append_assoc before (k ∷ []) prefix.rest in
-      let next = r.shape p.width p.depth p.width (k ∷ prefix.rest) (subst (λ (xs : List TokenKind). run p.width xs (declarations ∷ statements ∷ []) p.depth p.width ≡ spelled) same run_all) in
+      let next = r.shape p.width p.depth p.width (k ∷ prefix.rest) (runs_through before k prefix.rest p.spells) in
       stuck_goes p.width k prefix.rest (step p.width k wants next.0 next.1)
       (subst (λ (m : Move). Alike m (step p.width k wants next.0 next.1)) e (alike k wants width d w p.width next.0 next.1)) next.2
 
@@ -222,10 +183,13 @@ module _ (depth width : ℕ) where
     ended = λ same. let h = length-append before (k ∷ rest) in absurd (omega (arith, h, same));
   }
 
+  meets_at : (ks : List TokenKind) (outcome : Outcome) → run width ks (declarations ∷ statements ∷ []) depth width ≡ outcome → Met width (declarations ∷ statements ∷ []) depth width ks outcome
+  meets_at ks outcome h = subst (Met width (declarations ∷ statements ∷ []) depth width ks) h (meets width ks (declarations ∷ statements ∷ []) depth width)
+
   pub stops_at : (ks rest : List TokenKind) → run width ks (declarations ∷ statements ∷ []) depth width ≡ stopped rest → StopsAt depth width ks (length ks - length rest)
   stops_at ks rest h =
-      let s = stop width ks (declarations ∷ statements ∷ []) depth width rest h in
-      rw (s.parts, before_place s.before rest) (stops s.before rest s.wants s.depth s.spare s.reached s.is_stuck)
+      let m = meets_at ks (stopped rest) h in
+      rw (m.parts, before_place m.before rest) (stops m.before rest m.wants m.depth m.spare m.reached m.ends)
 
   wider_prefix : (before : List TokenKind) (wants : List Want) (d w : ℕ) (k : TokenKind) → Reached width (declarations ∷ statements ∷ []) depth width before wants d w
       → step width k wants d w ≡ deep → IsPrefix (before ++ k ∷ [])
@@ -242,16 +206,15 @@ module _ (depth width : ℕ) where
   too_deep_within : (before : List TokenKind) (wants : List Want) (d w : ℕ) (k : TokenKind) → Reached width (declarations ∷ statements ∷ []) depth width before wants d w
       → step width k wants d w ≡ deep → IsPrefixWithin depth width (before ++ k ∷ []) → ⊥
   too_deep_within before wants d w k r e prefix =
-      let run_all : run width (before ++ k ∷ [] ++ prefix.rest) (declarations ∷ statements ∷ []) depth width ≡ spelled = runs prefix.spells in
-      let same : before ++ k ∷ [] ++ prefix.rest ≡ before ++ (k ∷ prefix.rest) = append_assoc before (k ∷ []) prefix.rest in
-      let through : run width (before ++ (k ∷ prefix.rest)) (declarations ∷ statements ∷ []) depth width ≡ spelled = subst (λ (xs : List TokenKind). run width xs (declarations ∷ statements ∷ []) depth width ≡ spelled) same run_all in
+      let through = runs_through before k prefix.rest prefix.spells in
       let moved = r.moves (k ∷ prefix.rest) in
       let last : too_deep (k ∷ prefix.rest) ≡ spelled = sym (ap (Goes width k prefix.rest) e) ∙ sym moved ∙ through in
       absurd cc
 
-  deeps : (before : List TokenKind) (k : TokenKind) (rest : List TokenKind) (wants : List Want) (d w : ℕ) → Reached width (declarations ∷ statements ∷ []) depth width before wants d w
-      → step width k wants d w ≡ deep → DeepAt depth width (before ++ k ∷ rest) (length before)
-  deeps before k rest wants d w r e = record {
+  deeps : (before rest : List TokenKind) (wants : List Want) (d w : ℕ) → Reached width (declarations ∷ statements ∷ []) depth width before wants d w → IsDeep width rest wants d w
+      → DeepAt depth width (before ++ rest) (length before)
+  deeps before [] wants d w r e = absurd e
+  deeps before (k ∷ rest) wants d w r e = record {
     within = let l = length-append before (k ∷ rest) in omega (arith, l);
     before = rw (take_before before (k ∷ rest)) (within before wants d w r);
     prefix = rw (take_through before k rest) (wider_prefix before wants d w k r e);
@@ -260,7 +223,5 @@ module _ (depth width : ℕ) where
 
   pub deep_at : (ks rest : List TokenKind) → run width ks (declarations ∷ statements ∷ []) depth width ≡ too_deep rest → DeepAt depth width ks (length ks - length rest)
   deep_at ks rest h =
-      let s = deepens width ks (declarations ∷ statements ∷ []) depth width rest h in
-      rw (s.parts, before_place s.before rest)
-      (subst (λ (xs : List TokenKind). DeepAt depth width (s.before ++ xs) (length s.before)) (sym s.begins)
-      (deeps s.before s.kind s.behind s.wants s.depth s.spare s.reached s.is_deep))
+      let m = meets_at ks (too_deep rest) h in
+      rw (m.parts, before_place m.before rest) (deeps m.before rest m.wants m.depth m.spare m.reached m.ends)

@@ -1,15 +1,17 @@
 -- What was taken, or was not there.
-use Rattle.std.proofs.Common.{◌≡◌, ℕ, suc, List, ◌∷◌, Option, Some, None, Ok, Err, true, false, subst, ◌∙◌}
+use Rattle.std.proofs.Common.{◌≡◌, ℕ, suc, List, ◌∷◌, Option, Some, None, Result, Ok, Err, true, false, subst, ◌∙◌}
 use Rattle.std.specs.Prelude.{is_some}
+use Rattle.std.specs.Result.{IsErrAnd}
 use Rattle.source_lexer.specs.declared.token.TokenKind.{TokenKind}
 use Rattle.source_lexer.specs.declared.token.TokenKind.TheVariants as kind
 use Rattle.source_tree.specs.declared.name.Name.{Name}
 use Rattle.source_tree.specs.declared.expression.Operator.{Operator}
 use Rattle.source_tree.specs.declared.expression.Comparison.{Comparison}
 use Rattle.source_parser.specs.declared.fault.Fault.{Fault}
+use Rattle.source_parser.specs.declared.fault.Fault.TheVariants.{Deep}
 use Rattle.source_parser.specs.Terminals.{Terminal, identifier, fixed, kinds_of}
 use Rattle.source_parser.specs.Grammar.{Level, Joins, Compares, less, less_equal, greater, greater_equal, equal, not_equal}
-use Rattle.source_parser.specs.Taking.{NotKind, Misses, TakesFixed, TakesIdentifier, TakesWithin, TakesWeighted, TakesOperator, ExpectsComparison}
+use Rattle.source_parser.specs.Taking.{NotKind, Misses, Stands, TakesFixed, TakesIdentifier, TakesWithin, TakesWeighted, TakesOperator, ExpectsComparison}
 
 pub taken : (kind : TokenKind) (old : List Terminal) (found : Option ℕ) (new : List Terminal) → TakesFixed kind old found new → true ≡ is_some found
     → (line : ℕ) × (old ≡ fixed kind line ∷ new)
@@ -50,11 +52,13 @@ pub operator_found : {level : Level} {sign : TokenKind} {operator : Operator} �
 operator_found {sign = sign} joins old weight_left line new left taken = (sign, joins, taken.0, taken.1)
 
 pub operator_past_limit : {level : Level} {sign : TokenKind} {operator : Operator} → Joins level sign operator
-    → (old now : List Terminal) (weight_left : ℕ) (fault : Fault) (new : List Terminal) (left still : ℕ) → now ≡ old → still ≡ weight_left
-    → TakesWeighted sign now still (Err fault) new left → TakesOperator level old weight_left (Err fault) new left
-operator_past_limit {sign = sign} {operator = operator} joins old now weight_left fault new left still same kept h =
-    let all = rw (same, kept) at h in
-    (all.0, all.1, sign, operator, joins, all.2)
+    → (old now new : List Terminal) (weight_left still left : ℕ) {fault : Fault} (result : Result (Option (Operator × ℕ)) Fault)
+    → now ≡ old → still ≡ weight_left → (fault ≡ Deep) × (still ≡ 0) × Stands sign now new → IsErrAnd result (λ own. own ≡ fault)
+    → TakesOperator level old weight_left result new left
+operator_past_limit joins old now new weight_left still left (Ok found) same kept stands own = absurd own
+operator_past_limit {sign = sign} {operator = operator} joins old now new weight_left still left (Err fault) same kept stands own =
+    let all = rw (same, kept) at stands in
+    (own ∙ all.0, all.1, sign, operator, joins, all.2)
 
 -- a comparison that was taken after others that weren't
 pub comparison_found : {sign : TokenKind} {comparison : Comparison} → Compares sign comparison

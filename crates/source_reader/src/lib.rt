@@ -1,8 +1,8 @@
-//! Source texts as trees, or why they are refused.
+//! Source texts as programs, or why they are refused.
 //!
-//! In comes a source text, out goes the program that it spells, or its first fault with its line. The stages stand here in
-//! their order, `source_lexer` and `source_parser` so far; `source_tree` has the trees. Whoever means or compiles a source
-//! reads it here, and nothing is printed.
+//! In come a source text and the name of a set; out goes the program that the text spells, with the interval of each node,
+//! or its first fault with its line. The stages stand here in their order, each over the whole text: tokens, grammar, names,
+//! ranges. Whoever means or compiles a source reads it here, and nothing is printed.
 #![tactic(auto)]
 
 mod fault;

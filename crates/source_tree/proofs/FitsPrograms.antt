@@ -7,11 +7,12 @@ use Rattle.std.proofs.lemmas.List.Elements.{All-replicate}
 use Rattle.std.proofs.lemmas.Option.{slice_get_past}
 use Rattle.source_tree.specs.State.{State, with_integer, with_array, with_integers}
 use Rattle.source_tree.specs.Run.{Run, Leads}
-use Rattle.source_tree.specs.Scope.{Declared, variable, array, procedure, Scope, with_params, with_locals, inside, with_declared, names_in, with_all_declared, is_within}
+use Rattle.source_tree.specs.Scope.{Declared, variable, array, procedure, Scope, with_variables, inside, with_declared, names_in, with_all_declared, is_within}
 use Rattle.source_tree.specs.Expression.{Calls, Evaluation}
 use Rattle.source_tree.specs.Statement.{in_order, execution_by}
 use Rattle.source_tree.specs.Meaning.{start_of, with_start, with_all_started, at_start, locals_set, call_of, no_calls, with_call, with_all_calls, meaning_by}
 use Rattle.source_tree.specs.Fits.{variables_from, params_declared, locals_declared, declared_in, all_declared, declared_by, FitsAs, Fits, HasRange, HaveRanges, IsScopeOf, Suit, KeepFits}
+use Rattle.source_tree.specs.declared.name.Name.{Name}
 use Rattle.source_tree.specs.declared.name.Range.{Range}
 use Rattle.source_tree.specs.declared.expression.Expr.{Expr}
 use Rattle.source_tree.specs.declared.statement.Statement.{Statement}
@@ -74,19 +75,12 @@ module _ (declared : List Declared) where
       (both.0, subst (λ n. StandsAt declared (k + 1 + n) ls) e both.1)
 
   -- ---- scopes
-  pub scope_params : (k : ℕ) (params : List Param) (scope : Scope)
-      → StandsAt declared k (params_declared k params) → IsScopeOf declared scope
-      → IsScopeOf declared (with_params k params scope)
-  scope_params k [] scope h s = s
-  scope_params k (p ∷ params) scope h s =
-      scope_params (k + 1) params _ h.1 (scope_more declared scope p.name.bytes (variable k p.range) h.0 s)
-
-  pub scope_locals : (k : ℕ) (locals : List Local) (scope : Scope)
-      → StandsAt declared k (locals_declared k locals) → IsScopeOf declared scope
-      → IsScopeOf declared (with_locals k locals scope)
-  scope_locals k [] scope h s = s
-  scope_locals k (l ∷ locals) scope h s =
-      scope_locals (k + 1) locals _ h.1 (scope_more declared scope l.name.bytes (variable k l.range) h.0 s)
+  pub scope_variables : {A : Type 0} (name : A → Name) (range : A → Range) (k : ℕ) (xs : List A) (scope : Scope)
+      → StandsAt declared k (variables_from k (map range xs)) → IsScopeOf declared scope
+      → IsScopeOf declared (with_variables name range k xs scope)
+  scope_variables name range k [] scope h s = s
+  scope_variables name range k (x ∷ xs) scope h s =
+      scope_variables name range (k + 1) xs _ h.1 (scope_more declared scope (name x).bytes (variable k (range x)) h.0 s)
 
   pub scope_declared : (k : ℕ) (d : Declaration) (scope : Scope)
       → StandsAt declared k (declared_in k d) → IsScopeOf declared scope → IsScopeOf declared (with_declared k d scope)
@@ -139,7 +133,7 @@ module _ (declared : List Declared) where
           leads_and_then (locals_set (k + 1 + length params) locals set) _ (Kept declared ⊤) (Kept declared ⊤)
           (locals_keep (k + 1 + length params) locals set own.1 held)
           (λ u after f. statements_keep body (inside k params locals scope) calls after
-          (scope_locals (k + 1 + length params) locals _ own.1 (scope_params (k + 1) params scope own.0 s)) c f)
+          (scope_variables (λ l. l.name) (λ l. l.range) (k + 1 + length params) locals _ own.1 (scope_variables (λ p. p.name) (λ p. p.range) (k + 1) params scope own.0 s)) c f)
 
       same_params : (j : ℕ) (k : ℕ) (params others : List Range)
           → slice_get declared j ≡ Some (procedure j params) → slice_get declared j ≡ Some (procedure k others) → others ≡ params

@@ -2,6 +2,7 @@
 use Rattle.std.specs.Prelude.{ℕ, ◌+◌, ℤ, pos, List, [], ◌∷◌, ◌++◌, map, length, ◌&&◌, Bool, Option, Some, None, int_lt, int_le, slice_set, slice_index_or, unsigned_abs}
 use Rattle.plain_text.specs.Lookup.{Named, lookup}
 use Rattle.source_tree.specs.State.{State, with_integer, with_array}
+use Rattle.source_tree.specs.declared.name.Name.{Name}
 use Rattle.source_tree.specs.declared.name.Range.{Range}
 use Rattle.source_tree.specs.declared.declaration.Param.{Param}
 use Rattle.source_tree.specs.declared.declaration.Local.{Local}
@@ -20,13 +21,15 @@ abbrev pub Scope : Type 0
 Scope = Named Declared
 
 -- ---- the scope of declarations, with the number of the next name
+abbrev pub with_variables : {A : Type 0} → (A → Name) → (A → Range) → ℕ → List A → Scope → Scope
+with_variables name range k [] scope = scope
+with_variables name range k (x ∷ xs) scope = with_variables name range (k + 1) xs (scope ++ ((name x).bytes, variable k (range x)) ∷ [])
+
 abbrev pub with_params : ℕ → List Param → Scope → Scope
-with_params k [] scope = scope
-with_params k (p ∷ params) scope = with_params (k + 1) params (scope ++ (p.name.bytes, variable k p.range) ∷ [])
+with_params k params scope = with_variables (λ p. p.name) (λ p. p.range) k params scope
 
 abbrev pub with_locals : ℕ → List Local → Scope → Scope
-with_locals k [] scope = scope
-with_locals k (l ∷ locals) scope = with_locals (k + 1) locals (scope ++ (l.name.bytes, variable k l.range) ∷ [])
+with_locals k locals scope = with_variables (λ l. l.name) (λ l. l.range) k locals scope
 
 -- the scope of the body of procedure k: what was declared before it, its parameters and its locals
 abbrev pub inside : ℕ → List Param → List Local → Scope → Scope

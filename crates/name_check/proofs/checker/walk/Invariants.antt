@@ -1,9 +1,5 @@
-use Rattle.std.proofs.Common.{◌≡◌, []}
 use Rattle.name_check.proofs.RestLemmas.{HasPassed}
 use Rattle.name_check.proofs.checker.walk.Given as goal
 
 abbrev pub invariant-loop-d : goal.invariant-loop-d
-invariant-loop-d l = record {
-  passed : HasPassed l.declarations l.statements l.d-index l.number l.procedures l.symbols.0 l.initial.ties l.ties;
-  outside : l.symbols.1 ≡ [];
-}
+invariant-loop-d l = HasPassed l.declarations l.statements l.d-index l.number l.procedures l.symbols l.initial.ties l.ties

@@ -1,47 +1,28 @@
-use Rattle.std.proofs.Common.{List, ◌++◌, length, map, Ok, refl, ap, sym, subst, ◌∙◌}
+use Rattle.std.proofs.Common.{List, ◌++◌, map, Ok, refl, ap, sym, subst, ◌∙◌}
 use Rattle.name_check.specs.declared.fault.NameFault.{NameFault}
 use Rattle.plain_text.specs.Lookup.{lookup}
-use Rattle.name_check.specs.Names.{Loops, all_faults, as_assigned, as_procedure, condition_faults, expr_faults, exprs_faults, place_faults, statement_faults, with_loop}
+use Rattle.name_check.specs.Names.{Loops, all_faults, as_assigned, condition_faults, expr_faults, statement_faults, with_loop}
 use Rattle.name_check.specs.Reported.{IsReported, Walks}
-use Rattle.name_check.specs.Ties.{all_ties, condition_ties, expr_ties, name_ties, place_ties, statement_ties}
-use Rattle.name_check.specs.Visible.{scope_of}
-use Rattle.name_check.proofs.StatementLemmas.{node_walks, assign_node, if_node, for_node, while_node, call_node, heads}
+use Rattle.name_check.specs.Ties.{all_ties, condition_ties, expr_ties, name_ties, statement_ties}
+use Rattle.name_check.proofs.StatementLemmas.{node_walks, if_node, for_node, while_node, heads}
 use Rattle.name_check.proofs.WalkLemmas.{reports, stops, stops_later, walks_on, walked_first, walked_next, walked_stops, walked_all, all_faults-flat_map, all_ties-flat_map}
 use Rattle.name_check.proofs.statements.+statement.Goals as goal
-
-pub statement-returns-in_err-place-in-Assign-clause-walk :
-    goal.statement-returns-in_err-place-in-Assign-clause-walk
-statement-returns-in_err-place-in-Assign-clause-walk t c =
-    let scope = scope_of c.args.symbols.now in
-    let a = c.in-Assign in
-    node_walks c.args.s.now _ _ scope c.args.loops.now c.args.ties.now c.place.new.ties c.from_residual.result (assign_node c.args.s.now a.target a.value a.line a.is)
-    (reports _ _ c.args.ties.now c.place.new.ties c.in_err-place-in-Assign.field-0.0 c.from_residual.result c.from_residual.ensures.1
-    (stops (place_faults a.target scope c.args.loops.now) (expr_faults a.value scope) _ c.in_err-place-in-Assign.ensures))
-
-pub statement-returns-in_ok-place-in-Assign-clause-walk :
-    goal.statement-returns-in_ok-place-in-Assign-clause-walk
-statement-returns-in_ok-place-in-Assign-clause-walk t c =
-    let scope = scope_of c.args.symbols.now in
-    let a = c.in-Assign in
-    node_walks c.args.s.now _ _ scope c.args.loops.now c.args.ties.now c.expression.new.ties c.expression.result (assign_node c.args.s.now a.target a.value a.line a.is)
-    (walks_on (place_faults a.target scope c.args.loops.now) (expr_faults a.value scope) (place_ties a.target scope) (expr_ties a.value scope) c.args.ties.now c.place.new.ties
-    c.expression.new.ties c.expression.result c.in_ok-place-in-Assign.ensures c.expression.ensures)
 
 pub statement-returns-in_err-condition-in-If-clause-walk :
     goal.statement-returns-in_err-condition-in-If-clause-walk
 statement-returns-in_err-condition-in-If-clause-walk t c =
-    let scope = scope_of c.args.symbols.now in
+    let scope = c.args.symbols.now in
     let loops = c.args.loops.now in
     let i = c.in-If in
-    node_walks c.args.s.now _ _ scope loops c.args.ties.now c.condition.new.ties c.from_residual-in_err-condition-in-If.result
+    node_walks c.args.s.now _ _ scope loops c.args.ties.now c.condition.new.ties c.from_residual.result
     (if_node c.args.s.now i.test i.first i.second i.line i.is)
-    (reports _ _ c.args.ties.now c.condition.new.ties c.in_err-condition-in-If.field-0.0 c.from_residual-in_err-condition-in-If.result c.from_residual-in_err-condition-in-If.ensures.1
+    (reports _ _ c.args.ties.now c.condition.new.ties c.in_err-condition-in-If.field-0.0 c.from_residual.result c.from_residual.ensures.1
     (stops (condition_faults i.test scope) (all_faults (map statement_faults i.first) scope loops ++ all_faults (map statement_faults i.second) scope loops) _ c.in_err-condition-in-If.ensures))
 
 pub statement-returns-in_err-statements-in-If-clause-walk :
     goal.statement-returns-in_err-statements-in-If-clause-walk
 statement-returns-in_err-statements-in-If-clause-walk t c =
-    let scope = scope_of c.args.symbols.now in
+    let scope = c.args.symbols.now in
     let loops = c.args.loops.now in
     let i = c.in-If in
     node_walks c.args.s.now _ _ scope loops c.args.ties.now c.statements.new.ties c.from_residual-in_err-statements-in-If.result
@@ -53,7 +34,7 @@ statement-returns-in_err-statements-in-If-clause-walk t c =
 pub statement-returns-in_ok-statements-in-If-clause-walk :
     goal.statement-returns-in_ok-statements-in-If-clause-walk
 statement-returns-in_ok-statements-in-If-clause-walk t c =
-    let scope = scope_of c.args.symbols.now in
+    let scope = c.args.symbols.now in
     let loops = c.args.loops.now in
     let i = c.in-If in
     let first = map statement_faults i.first in
@@ -71,7 +52,7 @@ statement-returns-in_ok-statements-in-If-clause-walk t c =
 pub statement-returns-in_err-for_head-in-For-clause-walk :
     goal.statement-returns-in_err-for_head-in-For-clause-walk
 statement-returns-in_err-for_head-in-For-clause-walk t c =
-    let scope = scope_of c.args.symbols.now in
+    let scope = c.args.symbols.now in
     let f = c.in-For in
     let a = as_assigned (lookup f.name.bytes scope) f.name.line c.args.loops.now in
     let body = all_faults (map statement_faults f.body) scope (with_loop (lookup f.name.bytes scope) c.args.loops.now) in
@@ -84,7 +65,7 @@ statement-returns-in_err-for_head-in-For-clause-walk t c =
 pub statement-returns-in_err-statements-in-For-clause-walk :
     goal.statement-returns-in_err-statements-in-For-clause-walk
 statement-returns-in_err-statements-in-For-clause-walk t c =
-    let scope = scope_of c.args.symbols.now in
+    let scope = c.args.symbols.now in
     let f = c.in-For in
     let fault = c.in_err-statements-in-For.field-0.0 in
     let a = as_assigned (lookup f.name.bytes scope) f.name.line c.args.loops.now in
@@ -101,7 +82,7 @@ statement-returns-in_err-statements-in-For-clause-walk t c =
 pub statement-returns-in_ok-statements-in-For-clause-walk :
     goal.statement-returns-in_ok-statements-in-For-clause-walk
 statement-returns-in_ok-statements-in-For-clause-walk t c =
-    let scope = scope_of c.args.symbols.now in
+    let scope = c.args.symbols.now in
     let f = c.in-For in
     let o = lookup f.name.bytes scope in
     let a = as_assigned o f.name.line c.args.loops.now in
@@ -121,7 +102,7 @@ statement-returns-in_ok-statements-in-For-clause-walk t c =
 pub statement-returns-in_err-condition-in-While-clause-walk :
     goal.statement-returns-in_err-condition-in-While-clause-walk
 statement-returns-in_err-condition-in-While-clause-walk t c =
-    let scope = scope_of c.args.symbols.now in
+    let scope = c.args.symbols.now in
     let w = c.in-While in
     node_walks c.args.s.now _ _ scope c.args.loops.now c.args.ties.now c.condition-in-While.new.ties c.from_residual-in_err-condition-in-While.result
     (while_node c.args.s.now w.test w.limit w.body w.line w.is)
@@ -132,25 +113,12 @@ statement-returns-in_err-condition-in-While-clause-walk t c =
 pub statement-returns-in_ok-condition-in-While-clause-walk :
     goal.statement-returns-in_ok-condition-in-While-clause-walk
 statement-returns-in_ok-condition-in-While-clause-walk t c =
-    let scope = scope_of c.args.symbols.now in
+    let scope = c.args.symbols.now in
     let w = c.in-While in
     node_walks c.args.s.now _ _ scope c.args.loops.now c.args.ties.now c.statements-in-While.new.ties c.statements-in-While.result
     (while_node c.args.s.now w.test w.limit w.body w.line w.is)
     (walks_on (condition_faults w.test scope) (all_faults (map statement_faults w.body) scope c.args.loops.now) (condition_ties w.test scope) (all_ties (map statement_ties w.body) scope)
     c.args.ties.now c.condition-in-While.new.ties c.statements-in-While.new.ties c.statements-in-While.result c.in_ok-condition-in-While.ensures c.statements-in-While.ensures.walk)
-
-pub statement-returns-in_ok-push-in-Call-clause-walk :
-    goal.statement-returns-in_ok-push-in-Call-clause-walk
-statement-returns-in_ok-push-in-Call-clause-walk t c =
-    let scope = scope_of c.args.symbols.now in
-    let f = c.in-Call in
-    let arguments = all_ties (map expr_ties f.arguments) scope in
-    let found = c.in_ok-procedure-in-Call.ensures in
-    let none = ap (λ n. as_procedure (lookup f.name.bytes scope) n f.name.line) (sym c.len.ensures) ∙ found.0 in
-    let tied = c.in_ok-push-in-Call.ensures.ok ∙ ap (λ ties. c.args.ties.now ++ ties) (sym found.1) in
-    node_walks c.args.s.now _ _ scope c.args.loops.now c.args.ties.now c.expressions.new.ties c.expressions.result (call_node c.args.s.now f.name f.arguments f.line f.is)
-    (walks_on (as_procedure (lookup f.name.bytes scope) (length f.arguments) f.name.line) (exprs_faults f.arguments scope) (name_ties f.name scope) arguments c.args.ties.now c.push.new.self
-    c.expressions.new.ties c.expressions.result (none, tied) c.expressions.ensures)
 
 pub statements-loop-s-init : goal.statements-loop-s-init
 statements-loop-s-init t c =
@@ -159,7 +127,7 @@ statements-loop-s-init t c =
 pub statements-returns-in_err-statement-clause-walk :
     goal.statements-returns-in_err-statement-clause-walk
 statements-returns-in_err-statement-clause-walk t c =
-    let scope = scope_of c.args.symbols.now in
+    let scope = c.args.symbols.now in
     let loops = c.args.loops.now in
     let xs = c.as_slice-s-items.result.now in
     let fault = c.in_err-statement.field-0.0 in
@@ -170,7 +138,7 @@ statements-returns-in_err-statement-clause-walk t c =
 
 pub statements-loop-s-preserved : goal.statements-loop-s-preserved
 statements-loop-s-preserved t c =
-    let scope = scope_of c.args.symbols.now in
+    let scope = c.args.symbols.now in
     let loops = c.args.loops.now in
     let done = c.in_ok-statement.ensures.walk in
     record {
@@ -182,7 +150,7 @@ statements-loop-s-preserved t c =
 
 pub statements-returns-clause-walk : goal.statements-returns-clause-walk
 statements-returns-clause-walk t c =
-    let scope = scope_of c.args.symbols.now in
+    let scope = c.args.symbols.now in
     let loops = c.args.loops.now in
     let xs = c.as_slice-s-items.result.now in
     let all =

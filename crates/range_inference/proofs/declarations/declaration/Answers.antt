@@ -1,8 +1,7 @@
-use Rattle.std.proofs.Common.{◌≡◌, [], ◌∷◌, ◌++◌, map, refl, sym, ap, ◌∙◌, subst}
-use Rattle.source_tree.specs.Scope.{Scope, variable, array, procedure, with_declared, empty_range}
+use Rattle.std.proofs.Common.{[], ◌∷◌, ◌++◌, map, refl, sym, ap, ◌∙◌, subst}
+use Rattle.source_tree.specs.Scope.{variable, array, procedure, with_declared, empty_range}
 use Rattle.source_tree.specs.declared.declaration.Declaration.{Declaration}
-use Rattle.source_tree.specs.declared.declaration.Declaration.TheVariants.{Proc}
-use Rattle.range_inference.specs.Demands.{declaration_demands, procedure_demands}
+use Rattle.range_inference.specs.Demands.{declaration_demands, procedure_demands, wide_lines, node_intervals}
 use Rattle.range_inference.specs.Outcome.{IsJudged}
 use Rattle.range_inference.specs.Table.{Mirrors}
 use Rattle.range_inference.proofs.Judging.{told, on_ok_more}
@@ -12,16 +11,9 @@ use Rattle.range_inference.proofs.declarations.declaration.Goals as goal
 pub returns-in_err-procedure-in-Proc-clause-first : goal.returns-in_err-procedure-in-Proc-clause-first
 returns-in_err-procedure-in-Proc-clause-first c =
     λ k scope h.
-    let own = c.as_slice.result.now in
-    let inner = c.as_slice-in-Proc.result.now in
-    let body = c.as_slice-in-Proc-2.result.now in
-    let name = c.in-Proc.name in
-    let line = c.in-Proc.line in
-    let is : c.args.d.now ≡ Proc name own inner body line =
-    c.in-Proc.is ∙ ap (λ l. Proc name l c.in-Proc.inner c.in-Proc.body line) (sym c.as_slice.ensures)
-    ∙ ap (λ l. Proc name own l c.in-Proc.body line) (sym c.as_slice-in-Proc.ensures) ∙ ap (λ l. Proc name own inner l line) (sym c.as_slice-in-Proc-2.ensures) in
-    subst (λ (d : Declaration). IsJudged c.args.bound.value (declaration_demands k d scope) c.from_residual.result) (sym is)
-    (told c.args.bound.value (procedure_demands k own inner body scope) c.in_err-procedure-in-Proc.field-0.0 c.from_residual.result
+    let p = c.in-Proc in
+    subst (λ (d : Declaration). IsJudged c.args.bound.value (declaration_demands k d scope) c.from_residual.result) (sym p.is)
+    (told c.args.bound.value (procedure_demands k p.own p.inner p.body scope) c.in_err-procedure-in-Proc.field-0.0 c.from_residual.result
     (c.in_err-procedure-in-Proc.ensures.first k scope h) c.from_residual.ensures.1)
 
 pub returns-in-Var-clause-ranges : goal.returns-in-Var-clause-ranges
@@ -42,9 +34,20 @@ pub returns-in_ok-declare-in-Proc-clause-ranges : goal.returns-in_ok-declare-in-
 returns-in_ok-declare-in-Proc-clause-ranges c =
     λ k scope h.
     let d = procedure k (map (λ p. p.range) c.in-Proc.own) in
-    let bytes = c.as_slice-in-Proc-3.result.now in
+    let bytes = c.as_slice.result.now in
     let before : Mirrors c.procedure.new.table scope = subst (λ t. Mirrors t scope) (sym c.in_ok-procedure-in-Proc.ensures.table) h in
-    let named : Mirrors c.declare.new.self (scope ++ (bytes, d) ∷ []) =
-    mirrors_more c.procedure.new.table c.declare.new.self scope bytes empty_range d refl before c.in_ok-declare-in-Proc.ensures.ranges in
-    subst (λ (e : Declaration). Mirrors c.declare.new.self (with_declared k e scope)) (sym c.in-Proc.is)
-    (subst (λ n. Mirrors c.declare.new.self (scope ++ (n, d) ∷ [])) c.as_slice-in-Proc-3.ensures named)
+    let named : Mirrors c.declare.new.table (scope ++ (bytes, d) ∷ []) =
+    mirrors_more c.procedure.new.table c.declare.new.table scope bytes empty_range d refl before c.in_ok-declare-in-Proc.ensures.ranges in
+    subst (λ (e : Declaration). Mirrors c.declare.new.table (with_declared k e scope)) (sym c.in-Proc.is)
+    (subst (λ n. Mirrors c.declare.new.table (scope ++ (n, d) ∷ [])) c.as_slice.ensures named)
+
+pub returns-in_ok-declare-in-Proc-clause-first : goal.returns-in_ok-declare-in-Proc-clause-first
+returns-in_ok-declare-in-Proc-clause-first c =
+    λ k scope h.
+    ap (λ (d : Declaration). wide_lines c.args.bound.value (declaration_demands k d scope)) c.in-Proc.is ∙ c.in_ok-procedure-in-Proc.ensures.first k scope h
+
+pub returns-in_ok-declare-in-Proc-clause-intervals : goal.returns-in_ok-declare-in-Proc-clause-intervals
+returns-in_ok-declare-in-Proc-clause-intervals c =
+    λ k scope h.
+    c.in_ok-procedure-in-Proc.ensures.intervals k scope h
+    ∙ ap (λ (d : Declaration). c.args.intervals.now ++ node_intervals (declaration_demands k d scope)) (sym c.in-Proc.is)

@@ -7,6 +7,6 @@ use Rattle.range_inference.proofs.declarations.declarations.Given as goal
 
 abbrev pub invariant-loop-d : goal.invariant-loop-d
 invariant-loop-d l = record {
-  done : Done l.bound.value (declarations_demands 0 (take l.d-index l.list) []) l.initial.intervals l.intervals;
-  ranges : Mirrors l.table (with_all_declared 0 (take l.d-index l.list) []);
+  done : Done l.bound.value (declarations_demands 0 (take l.d-index l.d-items) []) l.initial.intervals l.intervals;
+  ranges : Mirrors l.table (with_all_declared 0 (take l.d-index l.d-items) []);
 }

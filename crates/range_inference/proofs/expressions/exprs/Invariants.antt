@@ -5,4 +5,4 @@ use Rattle.range_inference.proofs.Judging.{Done}
 use Rattle.range_inference.proofs.expressions.exprs.Given as goal
 
 abbrev pub invariant-loop-e : goal.invariant-loop-e
-invariant-loop-e l = Done l.bound.value (exprs_demands (take l.e-index l.expressions) (range_in l.table)) l.initial.intervals l.intervals
+invariant-loop-e l = Done l.bound.value (exprs_demands (take l.e-index l.e-items) (range_in l.table)) l.initial.intervals l.intervals

@@ -6,4 +6,4 @@ use Rattle.range_inference.proofs.statements.+statement.Given as goal
 
 abbrev pub invariant-statements-loop-s : goal.invariant-statements-loop-s
 invariant-statements-loop-s l =
-    Done l.bound.value (statements_demands (take l.s-index l.list) (range_in l.table)) l.initial.intervals l.intervals
+    Done l.bound.value (statements_demands (take l.s-index l.s-items) (range_in l.table)) l.initial.intervals l.intervals

@@ -1,14 +1,11 @@
 use Rattle.std.proofs.Common.{refl}
-use Rattle.std.proofs.lemmas.Result.{err_from_is_err_and}
 use Rattle.source_parser.specs.Grammar as g
 use Rattle.source_parser.proofs.Taken.{operator_found, operator_past_limit}
 use Rattle.source_parser.proofs.expression.sign_of_sum.Goals as goal
 
 pub returns-in_err-line-clause-value : goal.returns-in_err-line-clause-value
 returns-in_err-line-clause-value c =
-    let failed = err_from_is_err_and c.from_residual.result c.from_residual.ensures.1 in
-    rw (failed.1, failed.2) (operator_past_limit g.plus c.args.reader.now c.args.reader.now c.args.weight_left.now c.in_err-line.field-0.0 c.take_weighted.new.reader c.take_weighted.new.weight_left
-    c.args.weight_left.now refl refl c.in_err-line.ensures.value)
+    operator_past_limit g.plus c.args.reader.now _ c.take_weighted.new.reader c.args.weight_left.now _ c.take_weighted.new.weight_left c.from_residual.result refl refl c.in_err-line.ensures.value c.from_residual.ensures.1
 
 pub returns-in-Some-clause-value : goal.returns-in-Some-clause-value
 returns-in-Some-clause-value c =
@@ -18,9 +15,7 @@ returns-in-Some-clause-value c =
 pub returns-in_err-line-2-clause-value : goal.returns-in_err-line-2-clause-value
 returns-in_err-line-2-clause-value c =
     let plus = rw c.in_default.is at c.in_ok-line.ensures.value in
-    let failed = err_from_is_err_and c.from_residual-in_err-line-2.result c.from_residual-in_err-line-2.ensures.1 in
-    rw (failed.1, failed.2) (operator_past_limit g.minus c.args.reader.now c.take_weighted.new.reader c.args.weight_left.now c.in_err-line-2.field-0.0 c.take_weighted-2.new.reader c.take_weighted-2.new.weight_left
-    c.take_weighted.new.weight_left plus.1.0 plus.0 c.in_err-line-2.ensures.value)
+    operator_past_limit g.minus c.args.reader.now _ c.take_weighted-2.new.reader c.args.weight_left.now _ c.take_weighted-2.new.weight_left c.from_residual-in_err-line-2.result plus.1.0 plus.0 c.in_err-line-2.ensures.value c.from_residual-in_err-line-2.ensures.1
 
 pub returns-in-Some-2-clause-value : goal.returns-in-Some-2-clause-value
 returns-in-Some-2-clause-value c =

@@ -1,0 +1,66 @@
+use crate::programs::parsed;
+use moduli_sets::SetName;
+use name_check::check_names;
+use range_inference::{Interval, RangeFault, infer};
+use std::test::Fail;
+
+/// Nodes of expressions in a procedure and outside; the interval of `40 * n` is too wide for `pocket` alone.
+const JOB: &str = "\
+var x: -5..9;
+array a[3]: 0..7;
+proc p(n: 2..3) do x := 40 * n; end
+x := a[1] - x;
+print x mod 4;
+";
+
+fn from_to(low: i128, high: i128) -> Interval {
+    Interval { low, high }
+}
+
+#[test]
+fn nodes_have_intervals(rt: HostRuntime) -> Result<(), Fail> {
+    let Ok(program) = parsed(rt.alloc(), JOB)? else {
+        assert!(rt; false);
+        return Ok(());
+    };
+    let Ok(checked) = check_names(rt.alloc(), program) else {
+        assert!(rt; false);
+        return Ok(());
+    };
+    match infer(rt.alloc(), checked, SetName::Hall) {
+        Ok(ranged) => {
+            let wanted = [
+                from_to(40, 40),
+                from_to(2, 3),
+                from_to(80, 120),
+                from_to(1, 1),
+                from_to(0, 7),
+                from_to(-5, 9),
+                from_to(-9, 12),
+                from_to(-5, 9),
+                from_to(4, 4),
+                from_to(0, 3),
+            ];
+            assert_eq!(rt; ranged.intervals(), wanted.as_slice());
+        }
+        Err(_) => assert!(rt; false),
+    }
+    Ok(())
+}
+
+#[test]
+fn first_too_wide_has_its_line(rt: HostRuntime) -> Result<(), Fail> {
+    let Ok(program) = parsed(rt.alloc(), JOB)? else {
+        assert!(rt; false);
+        return Ok(());
+    };
+    let Ok(checked) = check_names(rt.alloc(), program) else {
+        assert!(rt; false);
+        return Ok(());
+    };
+    match infer(rt.alloc(), checked, SetName::Pocket) {
+        Ok(_) => assert!(rt; false),
+        Err(fault) => assert_eq!(rt; fault, RangeFault::TooWide(3)),
+    }
+    Ok(())
+}

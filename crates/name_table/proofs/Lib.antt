@@ -1,0 +1,3 @@
+mod HeldLemmas
+pub mod LookupLemmas
+mod Rows

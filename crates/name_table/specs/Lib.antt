@@ -1,0 +1,2 @@
+pub use Rattle.plain_text.specs.Lookup
+pub mod Entries

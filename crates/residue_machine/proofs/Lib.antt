@@ -1,0 +1,10 @@
+pub mod ActLemmas
+pub mod BenchLemmas
+pub mod FaultlessLemmas
+pub mod OperandLemmas
+pub mod PutLemmas
+pub mod Rows
+pub mod RunLemmas
+pub mod SettleLemmas
+pub mod StepLemmas
+pub mod TraceLemmas

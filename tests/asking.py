@@ -1,0 +1,61 @@
+"""Who is asked what `rnm` writes: the built program, or the second evaluator, which knows `mean` alone."""
+import os
+import subprocess
+import sys
+import tempfile
+from pathlib import Path
+
+from second.evaluation import answer
+
+TOP = Path(__file__).resolve().parent.parent
+PROGRAM = os.environ.get("RNM_PROGRAM", str(TOP / "crates" / "rnm" / "out" / "rnm"))
+SECOND = "--second"
+
+
+def ask_program(words, files):
+    """What the program writes with these words in a folder with these files, and its status."""
+    with tempfile.TemporaryDirectory(prefix="rnm_asked_") as folder:
+        for name, content in files.items():
+            (Path(folder) / name).write_bytes(content)
+        done = subprocess.run(
+            [PROGRAM, *words], cwd=folder, stdin=subprocess.DEVNULL, stdout=subprocess.PIPE, stderr=subprocess.PIPE,
+            timeout=60)
+        return done.stdout + done.stderr, done.returncode
+
+
+def ask_second(words, files):
+    """The same by the second evaluator, of words of `mean` that are a job; None of another command."""
+    if words[0] != "mean":
+        return None
+    options = dict(word[2:].split("=", 1) for word in words[1:] if word.startswith("--"))
+    source, given = [word for word in words[1:] if not word.startswith("--")]
+    written, status, _ = answer(
+        files[source], b"" if given == "-" else files[given], options.get("set", "desk"),
+        int(options.get("steps", 1_000_000)))
+    return written, status
+
+
+def asked(arguments):
+    """Whom the arguments of a script ask: the second evaluator where they have `--second`, and else the program."""
+    sys.dont_write_bytecode = True
+    return ask_second if SECOND in arguments else ask_program
+
+
+def difference(told, wanted):
+    """How an answer differs from what is wanted, a line each."""
+    (written, status), (wanted_text, wanted_status) = told, wanted
+    wrong = []
+    if written != wanted_text:
+        wrong += [f"wrote  {written[:400]!r}", f"wanted {wanted_text[:400]!r}"]
+    if status != wanted_status:
+        wrong.append(f"status {status}, wanted {wanted_status}")
+    return wrong
+
+
+def report(where, wrong):
+    """Prints what is wrong at a place, a line each, and returns whether something is."""
+    if wrong:
+        print(f"FAILS {where}")
+    for line in wrong:
+        print(f"      {line}")
+    return bool(wrong)

@@ -1,0 +1,120 @@
+#!/usr/bin/env python3
+"""tests/pages.py [--second] [PAGE..]
+
+Runs the examples of the pages that a user reads, from the pages themselves, and compares what is written. On a page each
+fenced block without a word behind its fence is one of these two:
+
+- A session, which begins with `$ `. `$ echo WORDS > FILE` makes a file. `$ rnm WORDS` or `$ ./rnm WORDS` runs the program,
+  and what it writes stands below; its status is 0, or it is shown by `; echo $?` behind the words and is the last line.
+- A file, for the next session: the one that is its first operand.
+
+Besides, the files of a page's own folder are there, where that is a folder of examples. Blocks with a word behind the
+fence are of another kind (`ebnf`, `text`) and aren't run. With `--second` it asks the second evaluator of tests/second,
+which knows `mean` alone.
+"""
+import re
+import sys
+from pathlib import Path
+
+sys.dont_write_bytecode = True
+
+from asking import TOP, asked, difference, report
+
+PAGES = [TOP / "README.md", TOP / "docs" / "FORMATS.md", TOP / "docs" / "LANGUAGE.md"]
+EXAMPLES = TOP / "examples"
+FENCE = "```"
+SHOWS_STATUS = "; echo $?"
+
+
+class Run:
+    """A run of the program on a page: its line, its words, the files that are there, and the lines below it."""
+
+    def __init__(self, line, words):
+        self.line = line
+        self.shows_status = words.endswith(SHOWS_STATUS)
+        self.words = words.removesuffix(SHOWS_STATUS).split()
+        self.files = {}
+        self.lines = []
+
+    def first_operand(self):
+        return next((word for word in self.words[1:] if not word.startswith("--")), None)
+
+    def wanted(self):
+        lines, status = self.lines, 0
+        if self.shows_status:
+            lines, status = lines[:-1], int(lines[-1])
+        return "".join(f"{line}\n" for line in lines).encode(), status
+
+
+def blocks_of(text):
+    """The blocks without a word behind their fence: the line of the fence and the lines inside."""
+    found, inside, runs = [], None, False
+    for number, line in enumerate(text.split("\n"), 1):
+        if not line.startswith(FENCE):
+            if inside is not None:
+                inside.append(line)
+        elif inside is None:
+            inside, runs, begin = [], line == FENCE, number
+        else:
+            if runs:
+                found.append((begin, inside))
+            inside = None
+    return found
+
+
+def runs_of_session(begin, lines, files, source):
+    """The runs of a session, whose files are put among the others; a source has the name of the first run's operand."""
+    runs = []
+    for number, line in enumerate(lines, begin + 1):
+        made = re.fullmatch(r"\$ echo (.*) > (\S+)", line)
+        run = re.fullmatch(r"\$ (?:\./)?rnm (.*)", line)
+        if made:
+            files[made[2]] = made[1].encode() + b"\n"
+        elif run:
+            runs.append(Run(number, run[1]))
+            if source is not None and len(runs) == 1:
+                files[runs[0].first_operand()] = source
+            runs[-1].files = dict(files)
+        elif not runs or line.startswith("$ "):
+            raise SystemExit(f"line {number}: {line!r} is no line of a session")
+        else:
+            runs[-1].lines.append(line)
+    return runs
+
+
+def runs_of(page):
+    """Each run of a page."""
+    files = {}
+    if EXAMPLES in page.parents:
+        files = {path.name: path.read_bytes() for path in page.parent.iterdir() if path != page}
+    source, runs = None, []
+    for begin, lines in blocks_of(page.read_text(encoding="utf-8")):
+        if lines and lines[0].startswith("$ "):
+            runs += runs_of_session(begin, lines, files, source)
+            source = None
+        elif source is None:
+            source = "".join(f"{line}\n" for line in lines).encode()
+        else:
+            raise SystemExit(f"{page}:{begin}: no session uses the file before this block")
+    if source is not None:
+        raise SystemExit(f"{page}: no session uses the last file")
+    return runs
+
+
+def main(given):
+    ask = asked(given)
+    named = [Path(it).resolve() for it in given if not it.startswith("--")]
+    count = failed = 0
+    for page in named or [*PAGES, *sorted(EXAMPLES.glob("*/README.md"))]:
+        for run in runs_of(page):
+            told = ask(run.words, run.files)
+            if told is None:
+                continue
+            count += 1
+            where = f"{page.relative_to(TOP)}:{run.line}: {' '.join(run.words)}"
+            failed += report(where, difference(told, run.wanted()))
+    print(f"{count} examples of the pages")
+    return 1 if failed else 0
+
+
+sys.exit(main(sys.argv[1:]))
