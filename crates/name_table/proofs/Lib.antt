@@ -1,3 +1,4 @@
 mod HeldLemmas
 pub mod LookupLemmas
+pub mod MirrorLemmas
 mod Rows
