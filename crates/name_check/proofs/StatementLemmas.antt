@@ -1,6 +1,7 @@
 -- Faults and ties of a statement, by those of its parts.
 use Rattle.std.proofs.Common.{◌≡◌, ℕ, List, ◌++◌, map, Result, ap, sym, subst, ◌∙◌, append_assoc}
 use Rattle.std.specs.Prelude.{ℤ, ⊤}
+use Rattle.std.specs.Result.{IsErrAnd}
 use Rattle.source_tree.specs.Scope.{Scope}
 use Rattle.source_tree.specs.declared.name.Name.{Name}
 use Rattle.source_tree.specs.declared.expression.Condition.{Condition}
@@ -10,9 +11,10 @@ use Rattle.source_tree.specs.declared.statement.Statement.{Statement, Assign, If
 use Rattle.source_tree.specs.declared.statement.Statement.TheOpen as statement
 use Rattle.name_check.specs.declared.fault.NameFault.{NameFault}
 use Rattle.name_check.specs.Names.{Faults, Loops, faults_of_node, statement_faults}
-use Rattle.name_check.specs.Reported.{Walks}
+use Rattle.name_check.specs.Reported.{IsReported, Walks}
 use Rattle.name_check.specs.Ties.{Ties, ties_of_node, statement_ties}
 use Rattle.name_check.proofs.FoldEquations.{fold-Assign, fold-If, fold-For, fold-While, fold-Call}
+use Rattle.name_check.proofs.WalkLemmas.{reports}
 
 -- a statement has these faults and ties
 pub record IsNode (s : Statement) (faults : Faults) (ties : Ties) : Type 0 where
@@ -25,6 +27,13 @@ pub node_walks : (s : Statement) (faults : Faults) (ties : Ties) (scope : Scope)
 node_walks s faults ties scope loops before after result node walk =
     subst (λ f. Walks (f scope loops) (statement_ties s scope) before result after) (sym node.of_faults)
     (subst (λ t. Walks (faults scope loops) (t scope) before result after) (sym node.of_ties) walk)
+
+-- what is reported of its parts is reported of it
+pub node_reports : (s : Statement) (faults : Faults) (ties : Ties) (scope : Scope) (loops : Loops) (before after : List ℕ) (fault : NameFault) (result : Result ⊤ NameFault)
+    → IsNode s faults ties → IsErrAnd result (λ own. own ≡ fault) → IsReported (faults scope loops) fault
+    → Walks (statement_faults s scope loops) (statement_ties s scope) before result after
+node_reports s faults ties scope loops before after fault result node same h =
+    node_walks s faults ties scope loops before after result node (reports (faults scope loops) (ties scope) before after fault result same h)
 
 module _ (s : Statement) where
   pub assign_node : (place : Place) (value : Expr) (line : ℕ) → s ≡ Assign place value line

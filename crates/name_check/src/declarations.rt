@@ -1,4 +1,4 @@
-ghost use Rattle.std.specs.Prelude.{◌≡◌, ◌+◌, ◌<◌, ◌∷◌, ◌++◌, [], IfErr, IfOk, None, OnOk, length, map, nat_eq};
+ghost use Rattle.std.specs.Prelude.{◌≡◌, ◌+◌, ◌<◌, ◌∷◌, ◌++◌, [], IfErr, None, OnOk, length, map, nat_eq};
 ghost use Rattle.plain_text.specs.Lookup.{lookup};
 ghost use Rattle.source_tree.specs.Scope.{inside, names_in, procedure, variable, with_declared, with_locals, with_params, with_variables};
 ghost use Rattle.name_check.specs.declared.fault.NameFault.TheVariants.{NoMemory, TooMany};
@@ -11,7 +11,7 @@ use crate::statements::statements;
 use crate::symbols::{Symbol, Symbols};
 use source_tree::{Declaration, Local, Name, Param, Range, Statement, Variable};
 use sqlite_items::Items;
-use std::alloc::{AllocError, Global};
+use std::alloc::Global;
 
 /// How many procedures there may be.
 const MOST_PROCEDURES: u32 = 64;
@@ -104,12 +104,8 @@ fn declare_procedure(
     ensures declared { OnOk result (symbols.new ≡ symbols.old ++ (name.now.bytes, procedure number (map (λ p. p.range) params.now)) ∷ []) }
     ensures err { IfErr result (λ fault. fault ≡ NoMemory) }
 {
-    let params = Items::from_vec(ranges(alloc, params.as_slice())?);
-    symbols.declare(
-        alloc,
-        name.bytes.as_slice(),
-        Symbol::Procedure { number, params },
-    )?;
+    let symbol = Symbol::procedure(alloc, number, params.as_slice())?;
+    symbols.declare(alloc, name.bytes.as_slice(), symbol)?;
     Ok(())
 }
 
@@ -224,13 +220,6 @@ fn range_in_order(range: Range, line: u32) -> Result<(), NameFault>
     } else {
         Ok(())
     }
-}
-
-/// The ranges of parameters.
-fn ranges(alloc: Global, params: &[Param]) -> Result<Vec<Range>, AllocError>
-    ensures { IfOk result (λ found. found.items ≡ map (λ p. p.range) params.now) }
-{
-    params.iter().map(|p| p.range).collect(alloc)
 }
 
 /// How many names a declaration declares.

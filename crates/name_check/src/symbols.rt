@@ -1,9 +1,10 @@
-ghost use Rattle.std.specs.Prelude.{◌≡◌, [], ◌∷◌, ◌++◌, length, take, MatchOption, None, OnOk, Some};
+ghost use Rattle.std.specs.Prelude.{◌≡◌, [], ◌∷◌, ◌++◌, length, map, take, IfOk, MatchOption, None, OnOk, Some};
 ghost use Rattle.plain_text.specs.Lookup.{lookup};
 ghost use Rattle.name_check.specs.Held.{declared_of};
+ghost use Rattle.name_check.specs.declared.symbols.Symbol.TheVariants.{Procedure};
 
 use name_table::NameTable;
-use source_tree::Range;
+use source_tree::{Param, Range};
 use sqlite_items::Items;
 use std::alloc::{AllocError, Global};
 use std::marker::Model;
@@ -26,6 +27,26 @@ pub enum Symbol {
         number: u32,
         params: Items<Range>,
     },
+}
+
+impl Symbol {
+    /// A procedure of a number with its parameters. AllocError where memory runs out.
+    pub fn procedure(alloc: Global, number: u32, params: &[Param]) -> Result<Symbol, AllocError>
+        ensures { IfOk result (λ symbol. symbol ≡ Procedure number (map (λ p. p.range) params.now)) }
+    {
+        let ranges = ranges(alloc, params)?;
+        Ok(Symbol::Procedure {
+            number,
+            params: Items::from_vec(ranges),
+        })
+    }
+}
+
+/// The ranges of parameters.
+fn ranges(alloc: Global, params: &[Param]) -> Result<Vec<Range>, AllocError>
+    ensures { IfOk result (λ found. found.items ≡ map (λ p. p.range) params.now) }
+{
+    params.iter().map(|p| p.range).collect(alloc)
 }
 
 /// The names that are visible at a place of a source, in the order of their declarations: those declared outside

@@ -4,7 +4,7 @@ use Rattle.plain_text.specs.Lookup.{lookup}
 use Rattle.name_check.specs.Names.{Loops, all_faults, as_assigned, condition_faults, expr_faults, statement_faults, with_loop}
 use Rattle.name_check.specs.Reported.{IsReported, Walks}
 use Rattle.name_check.specs.Ties.{all_ties, condition_ties, expr_ties, name_ties, statement_ties}
-use Rattle.name_check.proofs.StatementLemmas.{node_walks, if_node, for_node, while_node, heads}
+use Rattle.name_check.proofs.StatementLemmas.{node_walks, node_reports, if_node, for_node, while_node, heads}
 use Rattle.name_check.proofs.WalkLemmas.{reports, stops, stops_later, walks_on, walked_first, walked_next, walked_stops, walked_all, all_faults-flat_map, all_ties-flat_map}
 use Rattle.name_check.proofs.statements.+statement.Goals as goal
 
@@ -14,10 +14,9 @@ statement-returns-in_err-condition-in-If-clause-walk t c =
     let scope = c.args.symbols.now in
     let loops = c.args.loops.now in
     let i = c.in-If in
-    node_walks c.args.s.now _ _ scope loops c.args.ties.now c.condition.new.ties c.from_residual.result
-    (if_node c.args.s.now i.test i.first i.second i.line i.is)
-    (reports _ _ c.args.ties.now c.condition.new.ties c.in_err-condition-in-If.field-0.0 c.from_residual.result c.from_residual.ensures.1
-    (stops (condition_faults i.test scope) (all_faults (map statement_faults i.first) scope loops ++ all_faults (map statement_faults i.second) scope loops) _ c.in_err-condition-in-If.ensures))
+    node_reports c.args.s.now _ _ scope loops c.args.ties.now c.condition.new.ties c.in_err-condition-in-If.field-0.0 c.from_residual.result
+    (if_node c.args.s.now i.test i.first i.second i.line i.is) c.from_residual.ensures.1
+    (stops (condition_faults i.test scope) (all_faults (map statement_faults i.first) scope loops ++ all_faults (map statement_faults i.second) scope loops) _ c.in_err-condition-in-If.ensures)
 
 pub statement-returns-in_err-statements-in-If-clause-walk :
     goal.statement-returns-in_err-statements-in-If-clause-walk
@@ -25,11 +24,10 @@ statement-returns-in_err-statements-in-If-clause-walk t c =
     let scope = c.args.symbols.now in
     let loops = c.args.loops.now in
     let i = c.in-If in
-    node_walks c.args.s.now _ _ scope loops c.args.ties.now c.statements.new.ties c.from_residual-in_err-statements-in-If.result
-    (if_node c.args.s.now i.test i.first i.second i.line i.is)
-    (reports _ _ c.args.ties.now c.statements.new.ties c.in_err-statements-in-If.field-0.0 c.from_residual-in_err-statements-in-If.result c.from_residual-in_err-statements-in-If.ensures.1
+    node_reports c.args.s.now _ _ scope loops c.args.ties.now c.statements.new.ties c.in_err-statements-in-If.field-0.0 c.from_residual-in_err-statements-in-If.result
+    (if_node c.args.s.now i.test i.first i.second i.line i.is) c.from_residual-in_err-statements-in-If.ensures.1
     (stops_later (condition_faults i.test scope) (all_faults (map statement_faults i.first) scope loops ++ all_faults (map statement_faults i.second) scope loops) _ c.in_ok-condition-in-If.ensures.0
-    (stops (all_faults (map statement_faults i.first) scope loops) (all_faults (map statement_faults i.second) scope loops) _ c.in_err-statements-in-If.ensures.walk)))
+    (stops (all_faults (map statement_faults i.first) scope loops) (all_faults (map statement_faults i.second) scope loops) _ c.in_err-statements-in-If.ensures.walk))
 
 pub statement-returns-in_ok-statements-in-If-clause-walk :
     goal.statement-returns-in_ok-statements-in-If-clause-walk
@@ -56,11 +54,10 @@ statement-returns-in_err-for_head-in-For-clause-walk t c =
     let f = c.in-For in
     let a = as_assigned (lookup f.name.bytes scope) f.name.line c.args.loops.now in
     let body = all_faults (map statement_faults f.body) scope (with_loop (lookup f.name.bytes scope) c.args.loops.now) in
-    node_walks c.args.s.now _ _ scope c.args.loops.now c.args.ties.now c.for_head.new.ties c.from_residual-in_err-for_head-in-For.result
-    (for_node c.args.s.now f.name f.first f.last f.body f.line f.is)
-    (reports _ _ c.args.ties.now c.for_head.new.ties c.in_err-for_head-in-For.field-0.0 c.from_residual-in_err-for_head-in-For.result c.from_residual-in_err-for_head-in-For.ensures.1
+    node_reports c.args.s.now _ _ scope c.args.loops.now c.args.ties.now c.for_head.new.ties c.in_err-for_head-in-For.field-0.0 c.from_residual-in_err-for_head-in-For.result
+    (for_node c.args.s.now f.name f.first f.last f.body f.line f.is) c.from_residual-in_err-for_head-in-For.ensures.1
     (subst (λ faults. IsReported faults c.in_err-for_head-in-For.field-0.0) (heads a (expr_faults f.first scope) (expr_faults f.last scope) body)
-    (stops (a ++ (expr_faults f.first scope ++ expr_faults f.last scope)) body _ c.in_err-for_head-in-For.ensures.walk)))
+    (stops (a ++ (expr_faults f.first scope ++ expr_faults f.last scope)) body _ c.in_err-for_head-in-For.ensures.walk))
 
 pub statement-returns-in_err-statements-in-For-clause-walk :
     goal.statement-returns-in_err-statements-in-For-clause-walk
@@ -72,12 +69,11 @@ statement-returns-in_err-statements-in-For-clause-walk t c =
     let head = a ++ (expr_faults f.first scope ++ expr_faults f.last scope) in
     let body : Loops → List NameFault = λ l. all_faults (map statement_faults f.body) scope l in
     let within = body (with_loop (lookup f.name.bytes scope) c.args.loops.now) in
-    node_walks c.args.s.now _ _ scope c.args.loops.now c.args.ties.now c.statements-in-For.new.ties c.from_residual-in_err-statements-in-For.result
-    (for_node c.args.s.now f.name f.first f.last f.body f.line f.is)
-    (reports _ _ c.args.ties.now c.statements-in-For.new.ties fault c.from_residual-in_err-statements-in-For.result c.from_residual-in_err-statements-in-For.ensures.1
+    node_reports c.args.s.now _ _ scope c.args.loops.now c.args.ties.now c.statements-in-For.new.ties fault c.from_residual-in_err-statements-in-For.result
+    (for_node c.args.s.now f.name f.first f.last f.body f.line f.is) c.from_residual-in_err-statements-in-For.ensures.1
     (subst (λ faults. IsReported faults fault) (heads a (expr_faults f.first scope) (expr_faults f.last scope) within)
     (stops_later head within fault c.in_ok-for_head-in-For.ensures.walk.0
-    (subst (λ l. IsReported (body l) fault) c.in_ok-for_head-in-For.ensures.loops c.in_err-statements-in-For.ensures.walk))))
+    (subst (λ l. IsReported (body l) fault) c.in_ok-for_head-in-For.ensures.loops c.in_err-statements-in-For.ensures.walk)))
 
 pub statement-returns-in_ok-statements-in-For-clause-walk :
     goal.statement-returns-in_ok-statements-in-For-clause-walk
@@ -104,11 +100,9 @@ pub statement-returns-in_err-condition-in-While-clause-walk :
 statement-returns-in_err-condition-in-While-clause-walk t c =
     let scope = c.args.symbols.now in
     let w = c.in-While in
-    node_walks c.args.s.now _ _ scope c.args.loops.now c.args.ties.now c.condition-in-While.new.ties c.from_residual-in_err-condition-in-While.result
-    (while_node c.args.s.now w.test w.limit w.body w.line w.is)
-    (reports _ _ c.args.ties.now c.condition-in-While.new.ties c.in_err-condition-in-While.field-0.0 c.from_residual-in_err-condition-in-While.result
-    c.from_residual-in_err-condition-in-While.ensures.1
-    (stops (condition_faults w.test scope) (all_faults (map statement_faults w.body) scope c.args.loops.now) _ c.in_err-condition-in-While.ensures))
+    node_reports c.args.s.now _ _ scope c.args.loops.now c.args.ties.now c.condition-in-While.new.ties c.in_err-condition-in-While.field-0.0 c.from_residual-in_err-condition-in-While.result
+    (while_node c.args.s.now w.test w.limit w.body w.line w.is) c.from_residual-in_err-condition-in-While.ensures.1
+    (stops (condition_faults w.test scope) (all_faults (map statement_faults w.body) scope c.args.loops.now) _ c.in_err-condition-in-While.ensures)
 
 pub statement-returns-in_ok-condition-in-While-clause-walk :
     goal.statement-returns-in_ok-condition-in-While-clause-walk
