@@ -1,6 +1,7 @@
 -- Declarations, parameters and locals, one more at a time.
 use Rattle.std.proofs.Common.{◌≡◌, ℕ, zero, suc, ◌+◌, ◌<◌, List, [], ◌∷◌, ◌++◌, length, take, get_or, refl, sym, ap, ◌∙◌, subst, arith, append_assoc, append-nil}
-use Rattle.plain_text.specs.Lookup.{Named, lookup}
+use Rattle.plain_text.specs.Lookup.{Named}
+use Rattle.name_table.specs.Entries.{with_new}
 use Rattle.source_tree.specs.Scope.{Scope, variable, with_variables, inside, with_declared, names_in, with_all_declared, range_at}
 use Rattle.source_tree.specs.declared.name.Name.{Name}
 use Rattle.source_tree.specs.declared.name.Range.{Range}
@@ -10,9 +11,9 @@ use Rattle.source_tree.specs.declared.declaration.Declaration.{Declaration}
 use Rattle.source_tree.specs.declared.declaration.Program.{Program}
 use Rattle.source_tree.specs.declared.statement.Statement.{Statement}
 use Rattle.range_inference.specs.Demands.{Demand, variables_demands, params_demands, locals_demands, statements_demands, procedure_demands, declaration_demands, declarations_demands, demands_of, node_intervals}
-use Rattle.range_inference.specs.Table.{Mirrors, range_in}
+use Rattle.range_inference.specs.Table.{HasRanges, range_in}
 use Rattle.range_inference.proofs.Judging.{Two, Three, nodes-append}
-use Rattle.range_inference.proofs.TableLemmas.{mirrored, mirrors_more}
+use Rattle.range_inference.proofs.TableLemmas.{ranges_are, has_more}
 
 module _ {A : Type 0} (name : A → Name) (range : A → Range) where
   with_variables-append : (k : ℕ) (xs : List A) (x : A) (scope : Scope)
@@ -22,13 +23,13 @@ module _ {A : Type 0} (name : A → Name) (range : A → Range) where
 
   -- one more, by its name n and its range r
   pub variables_mirror : (before after : Named Range) (k : ℕ) (all xs : List A) (x : A) (scope : Scope) (n : Name) (r : Range) → n ≡ name x → r ≡ range x → all ≡ xs ++ x ∷ []
-      → Mirrors before (with_variables name range k xs scope) → ((y : List ℕ) → lookup y after ≡ lookup y (before ++ (n.bytes, r) ∷ []))
-      → Mirrors after (with_variables name range k all scope)
+      → HasRanges before (with_variables name range k xs scope) → after ≡ with_new before n.bytes r
+      → HasRanges after (with_variables name range k all scope)
   variables_mirror before after k all xs x scope n r same_name same_range is h more =
       let one = with_variables-append k xs x scope in
-      subst (λ (s : Scope). Mirrors after s) (sym (ap (λ l. with_variables name range k l scope) is ∙ one.1))
-      (mirrors_more before after (with_variables name range k xs scope) (name x).bytes (range x) (variable one.0 (range x)) refl h
-      (λ y. more y ∙ (λ j. lookup y (before ++ ((same_name j).bytes, same_range j) ∷ []))))
+      subst (λ (s : Scope). HasRanges after s) (sym (ap (λ l. with_variables name range k l scope) is ∙ one.1))
+      (has_more before after (with_variables name range k xs scope) (name x).bytes (variable one.0 (range x)) h
+      (more ∙ (λ j. with_new before (same_name j).bytes (same_range j))))
 
   pub variables_have_no_nodes : (xs : List A) → node_intervals (variables_demands name range xs) ≡ []
   variables_have_no_nodes [] = refl
@@ -76,12 +77,12 @@ module _ (k : ℕ) (own : List Param) (inner : List Local) (body : List Statemen
   abbrev pub procedure_parts : Three (procedure_demands k own inner body scope)
   procedure_parts = record { one = params_demands own; two = locals_demands inner; three = statements_demands body (range_at (inside k own inner scope)); is = refl }
 
-  abbrev pub procedure_parts_in : (table : Named Range) → Mirrors table (inside k own inner scope) → Three (procedure_demands k own inner body scope)
+  abbrev pub procedure_parts_in : (table : Named Range) → HasRanges table (inside k own inner scope) → Three (procedure_demands k own inner body scope)
   procedure_parts_in table names = record {
     one = params_demands own;
     two = locals_demands inner;
     three = statements_demands body (range_in table);
-    is = ap (λ ranges. params_demands own ++ (locals_demands inner ++ statements_demands body ranges)) (sym (mirrored table (inside k own inner scope) names));
+    is = ap (λ ranges. params_demands own ++ (locals_demands inner ++ statements_demands body ranges)) (sym (ranges_are table (inside k own inner scope) names));
   }
 
 -- ---- a program
@@ -92,11 +93,11 @@ program_parts program = record {
   is = refl;
 }
 
-abbrev pub program_parts_in : (program : Program) (table : Named Range) → Mirrors table (with_all_declared 0 program.declarations []) → Two (demands_of program)
+abbrev pub program_parts_in : (program : Program) (table : Named Range) → HasRanges table (with_all_declared 0 program.declarations []) → Two (demands_of program)
 program_parts_in program table names =
     let one = declarations_demands 0 program.declarations [] in
     record {
       one = one;
       two = statements_demands program.statements (range_in table);
-      is = ap (λ ranges. one ++ statements_demands program.statements ranges) (sym (mirrored table (with_all_declared 0 program.declarations []) names));
+      is = ap (λ ranges. one ++ statements_demands program.statements ranges) (sym (ranges_are table (with_all_declared 0 program.declarations []) names));
     }

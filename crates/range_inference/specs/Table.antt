@@ -1,6 +1,7 @@
 -- Ranges by name.
-use Rattle.std.specs.Prelude.{◌≡◌, ℕ, List, ◌++◌, map, Option, Some, None}
+use Rattle.std.specs.Prelude.{ℕ, List, Option, Some, None}
 use Rattle.plain_text.specs.Lookup.{Named, lookup}
+use Rattle.name_table.specs.Entries.{Mirrors}
 use Rattle.source_tree.specs.Scope.{Scope, empty_range, range_of}
 use Rattle.source_tree.specs.declared.name.Range.{Range}
 
@@ -12,15 +13,6 @@ range_or_empty None = empty_range
 unfoldable pub range_in : Named Range → List ℕ → Range
 range_in entries name = range_or_empty (lookup name entries)
 
--- ---- of a scope
--- what stands under each name, by its range; a procedure has the empty one
-abbrev pub ranges_of : Scope → Named Range
-ranges_of scope = map (λ e. (e.0, range_of (Some e.1))) scope
-
--- a table has the ranges of a scope
-abbrev pub Mirrors : Named Range → Scope → Type 0
-Mirrors entries scope = (x : List ℕ) → lookup x entries ≡ lookup x (ranges_of scope)
-
--- the same entries, and more behind them
-abbrev pub Extends : Named Range → Named Range → Type 0
-Extends before after = (more : Named Range) × (after ≡ before ++ more)
+-- a table has the range of each name of a scope; a procedure has the empty one
+abbrev pub HasRanges : Named Range → Scope → Type 0
+HasRanges entries scope = Mirrors (λ d. range_of (Some d)) scope entries

@@ -1,15 +1,15 @@
-ghost use Rattle.std.specs.Prelude.{◌≡◌, ℕ, List, ◌∷◌, [], ◌++◌, OnOk};
-ghost use Rattle.plain_text.specs.Lookup.{lookup};
+ghost use Rattle.std.specs.Prelude.{◌≡◌, ℕ, ◌∷◌, [], ◌++◌, OnOk};
+ghost use Rattle.name_table.specs.Entries.{Extends, with_new};
 ghost use Rattle.range_inference.specs.Demands.{declaration_demands, declarations_demands, declared, node_intervals, procedure_demands, variables_demands};
 ghost use Rattle.range_inference.specs.Outcome.{IsJudged};
-ghost use Rattle.range_inference.specs.Table.{Extends, Mirrors};
+ghost use Rattle.range_inference.specs.Table.{HasRanges};
 ghost use Rattle.source_tree.specs.Scope.{Scope, with_all_declared, with_declared, with_variables};
 
 use crate::bound::Bound;
 use crate::demand::require;
 use crate::fault::RangeFault;
 use crate::interval::Interval;
-use crate::ranges::{EMPTY, declare};
+use crate::ranges::EMPTY;
 use crate::statements::statements;
 use name_table::NameTable;
 use source_tree::{Declaration, Local, Name, Param, Range, Statement, Variable};
@@ -27,7 +27,7 @@ pub fn declarations(
     requires { table.old ≡ [] }
     ensures first { IsJudged bound.value (declarations_demands 0 list.now []) result }
     ensures intervals { OnOk result (intervals.new ≡ intervals.old ++ node_intervals (declarations_demands 0 list.now [])) }
-    ensures ranges { OnOk result (Mirrors table.new (with_all_declared 0 list.now [])) }
+    ensures ranges { OnOk result (HasRanges table.new (with_all_declared 0 list.now [])) }
 {
     for d in list.as_slice() {
         declaration(alloc, d, table, bound, intervals)?;
@@ -44,14 +44,14 @@ fn declaration(
     intervals: &mut Items<Interval>,
 ) -> Result<(), RangeFault>
     ensures first { (k : ℕ) (scope : Scope)
-        → Mirrors table.old scope
+        → HasRanges table.old scope
         → IsJudged bound.value (declaration_demands k d.now scope) result }
     ensures intervals { (k : ℕ) (scope : Scope)
-        → Mirrors table.old scope
+        → HasRanges table.old scope
         → OnOk result (intervals.new ≡ intervals.old ++ node_intervals (declaration_demands k d.now scope)) }
     ensures ranges { (k : ℕ) (scope : Scope)
-        → Mirrors table.old scope
-        → OnOk result (Mirrors table.new (with_declared k d.now scope)) }
+        → HasRanges table.old scope
+        → OnOk result (HasRanges table.new (with_declared k d.now scope)) }
 {
     match d {
         Declaration::Var { name, range, line } => {
@@ -71,7 +71,7 @@ fn declaration(
             ..
         } => {
             procedure(alloc, own, inner, body, table, bound, intervals)?;
-            declare(alloc, table, name.bytes.as_slice(), EMPTY)?;
+            table.declare(alloc, name.bytes.as_slice(), EMPTY)?;
             Ok(())
         }
     }
@@ -88,10 +88,10 @@ fn procedure(
     intervals: &mut Items<Interval>,
 ) -> Result<(), RangeFault>
     ensures first { (k : ℕ) (scope : Scope)
-        → Mirrors table.old scope
+        → HasRanges table.old scope
         → IsJudged bound.value (procedure_demands k own.now inner.now body.now scope) result }
     ensures intervals { (k : ℕ) (scope : Scope)
-        → Mirrors table.old scope
+        → HasRanges table.old scope
         → OnOk result (intervals.new ≡ intervals.old ++ node_intervals (procedure_demands k own.now inner.now body.now scope)) }
     ensures table { OnOk result (table.new ≡ table.old) }
 {
@@ -112,8 +112,8 @@ fn declare_all<V: Variable>(
 ) -> Result<(), RangeFault>
     ensures first { IsJudged bound.value (variables_demands V.name_of V.range_of list.now) result }
     ensures ranges { OnOk result ((k : ℕ) (scope : Scope)
-        → Mirrors table.old scope
-        → Mirrors table.new (with_variables V.name_of V.range_of k list.now scope)) }
+        → HasRanges table.old scope
+        → HasRanges table.new (with_variables V.name_of V.range_of k list.now scope)) }
     ensures others { OnOk result (Extends table.old table.new) }
 {
     for v in list.as_slice() {
@@ -133,10 +133,9 @@ fn variable(
     bound: Bound,
 ) -> Result<(), RangeFault>
     ensures first { IsJudged bound.value (declared range line ∷ []) result }
-    ensures ranges { OnOk result ((x : List ℕ) → lookup x table.new ≡ lookup x (table.old ++ (name.now.bytes, range) ∷ [])) }
-    ensures others { OnOk result (Extends table.old table.new) }
+    ensures table { OnOk result (table.new ≡ with_new table.old name.now.bytes range) }
 {
     require(Interval::of_range(range), line, bound)?;
-    declare(alloc, table, name.bytes.as_slice(), range)?;
+    table.declare(alloc, name.bytes.as_slice(), range)?;
     Ok(())
 }

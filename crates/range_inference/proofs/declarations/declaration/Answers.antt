@@ -1,11 +1,11 @@
 use Rattle.std.proofs.Common.{[], ◌∷◌, ◌++◌, map, refl, sym, ap, ◌∙◌, subst}
-use Rattle.source_tree.specs.Scope.{variable, array, procedure, with_declared, empty_range}
+use Rattle.source_tree.specs.Scope.{variable, array, procedure, with_declared}
 use Rattle.source_tree.specs.declared.declaration.Declaration.{Declaration}
 use Rattle.range_inference.specs.Demands.{declaration_demands, procedure_demands, wide_lines, node_intervals}
 use Rattle.range_inference.specs.Outcome.{IsJudged}
-use Rattle.range_inference.specs.Table.{Mirrors}
+use Rattle.range_inference.specs.Table.{HasRanges}
 use Rattle.range_inference.proofs.Judging.{told, on_ok_more}
-use Rattle.range_inference.proofs.TableLemmas.{mirrors_more}
+use Rattle.range_inference.proofs.TableLemmas.{has_more}
 use Rattle.range_inference.proofs.declarations.declaration.Goals as goal
 
 pub returns-in_err-procedure-in-Proc-clause-first : goal.returns-in_err-procedure-in-Proc-clause-first
@@ -19,27 +19,27 @@ returns-in_err-procedure-in-Proc-clause-first c =
 pub returns-in-Var-clause-ranges : goal.returns-in-Var-clause-ranges
 returns-in-Var-clause-ranges c =
     λ k scope h.
-    on_ok_more c.variable.result _ _ c.variable.ensures.ranges (λ more.
-    subst (λ (d : Declaration). Mirrors c.variable.new.table (with_declared k d scope)) (sym c.in-Var.is)
-    (mirrors_more c.args.table.now c.variable.new.table scope c.in-Var.name.bytes c.in-Var.range (variable k c.in-Var.range) refl h more))
+    on_ok_more c.variable.result _ _ c.variable.ensures.table (λ more.
+    subst (λ (d : Declaration). HasRanges c.variable.new.table (with_declared k d scope)) (sym c.in-Var.is)
+    (has_more c.args.table.now c.variable.new.table scope c.in-Var.name.bytes (variable k c.in-Var.range) h more))
 
 pub returns-in-Array-clause-ranges : goal.returns-in-Array-clause-ranges
 returns-in-Array-clause-ranges c =
     λ k scope h.
-    on_ok_more c.variable-in-Array.result _ _ c.variable-in-Array.ensures.ranges (λ more.
-    subst (λ (d : Declaration). Mirrors c.variable-in-Array.new.table (with_declared k d scope)) (sym c.in-Array.is)
-    (mirrors_more c.args.table.now c.variable-in-Array.new.table scope c.in-Array.name.bytes c.in-Array.range (array k c.in-Array.length c.in-Array.range) refl h more))
+    on_ok_more c.variable-in-Array.result _ _ c.variable-in-Array.ensures.table (λ more.
+    subst (λ (d : Declaration). HasRanges c.variable-in-Array.new.table (with_declared k d scope)) (sym c.in-Array.is)
+    (has_more c.args.table.now c.variable-in-Array.new.table scope c.in-Array.name.bytes (array k c.in-Array.length c.in-Array.range) h more))
 
 pub returns-in_ok-declare-in-Proc-clause-ranges : goal.returns-in_ok-declare-in-Proc-clause-ranges
 returns-in_ok-declare-in-Proc-clause-ranges c =
     λ k scope h.
     let d = procedure k (map (λ p. p.range) c.in-Proc.own) in
     let bytes = c.as_slice.result.now in
-    let before : Mirrors c.procedure.new.table scope = subst (λ t. Mirrors t scope) (sym c.in_ok-procedure-in-Proc.ensures.table) h in
-    let named : Mirrors c.declare.new.table (scope ++ (bytes, d) ∷ []) =
-    mirrors_more c.procedure.new.table c.declare.new.table scope bytes empty_range d refl before c.in_ok-declare-in-Proc.ensures.ranges in
-    subst (λ (e : Declaration). Mirrors c.declare.new.table (with_declared k e scope)) (sym c.in-Proc.is)
-    (subst (λ n. Mirrors c.declare.new.table (scope ++ (n, d) ∷ [])) c.as_slice.ensures named)
+    let before : HasRanges c.procedure.new.table scope = subst (λ t. HasRanges t scope) (sym c.in_ok-procedure-in-Proc.ensures.table) h in
+    let named : HasRanges c.declare.new.self (scope ++ (bytes, d) ∷ []) =
+    has_more c.procedure.new.table c.declare.new.self scope bytes d before c.in_ok-declare-in-Proc.ensures in
+    subst (λ (e : Declaration). HasRanges c.declare.new.self (with_declared k e scope)) (sym c.in-Proc.is)
+    (subst (λ n. HasRanges c.declare.new.self (scope ++ (n, d) ∷ [])) c.as_slice.ensures named)
 
 pub returns-in_ok-declare-in-Proc-clause-first : goal.returns-in_ok-declare-in-Proc-clause-first
 returns-in_ok-declare-in-Proc-clause-first c =

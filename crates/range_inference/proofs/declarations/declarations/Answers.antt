@@ -5,7 +5,7 @@ use Rattle.source_tree.specs.Scope.{Scope, with_all_declared}
 use Rattle.source_tree.specs.declared.name.Range.{Range}
 use Rattle.range_inference.specs.Demands.{declaration_demands, declarations_demands, wide_lines, node_intervals}
 use Rattle.range_inference.specs.Outcome.{IsJudged}
-use Rattle.range_inference.specs.Table.{Mirrors}
+use Rattle.range_inference.specs.Table.{HasRanges}
 use Rattle.range_inference.proofs.DeclarationLists.{At, at_declaration}
 use Rattle.range_inference.proofs.Judging.{Three, next_fails, nothing_done, done_then, done_same}
 use Rattle.range_inference.proofs.declarations.declarations.Goals as goal
@@ -14,7 +14,7 @@ pub loop-d-init : goal.loop-d-init
 loop-d-init c =
     record {
       done = nothing_done c.args.bound.value c.args.intervals.now;
-      ranges = λ x. ap (λ (t : Named Range). lookup x t) c.requires;
+      ranges = λ x. sym (ap (λ (t : Named Range). lookup x t) c.requires);
     }
 
 pub returns-in_err-declaration-clause-first : goal.returns-in_err-declaration-clause-first
@@ -44,7 +44,7 @@ loop-d-preserved c =
           (done_then c.args.bound.value before here c.args.intervals.now c.loop-d.intervals c.declaration.new.intervals c.loop-d.invariant.done
           (c.in_ok-declaration.ensures.first a.number scope c.loop-d.invariant.ranges) (c.in_ok-declaration.ensures.intervals a.number scope c.loop-d.invariant.ranges));
       ranges =
-          subst (λ (s : Scope). Mirrors c.declaration.new.table s) (sym (ap (λ n. with_all_declared 0 (take n list) []) (add-one i) ∙ a.names))
+          subst (λ (s : Scope). HasRanges c.declaration.new.table s) (sym (ap (λ n. with_all_declared 0 (take n list) []) (add-one i) ∙ a.names))
           (c.in_ok-declaration.ensures.ranges a.number scope c.loop-d.invariant.ranges);
     }
 
@@ -61,4 +61,4 @@ returns-clause-intervals c =
 pub returns-clause-ranges : goal.returns-clause-ranges
 returns-clause-ranges c =
     let all : take c.loop-d.d-index c.as_slice-d-items.result.now ≡ c.args.list.now = take_all c.loop-d.d-index c.as_slice-d-items.result.now (omega arith) ∙ c.as_slice-d-items.ensures in
-    subst (λ l. Mirrors c.loop-d.table (with_all_declared 0 l [])) all c.loop-d.invariant.ranges
+    subst (λ l. HasRanges c.loop-d.table (with_all_declared 0 l [])) all c.loop-d.invariant.ranges

@@ -3,10 +3,11 @@ use Rattle.std.proofs.lemmas.List.{take_all}
 use Rattle.source_tree.specs.Scope.{with_variables}
 use Rattle.range_inference.specs.Demands.{declared, variables_demands, wide_lines}
 use Rattle.range_inference.specs.Outcome.{IsFirst, IsJudged}
-use Rattle.range_inference.specs.Table.{Mirrors}
+use Rattle.range_inference.specs.Table.{HasRanges}
 use Rattle.range_inference.proofs.DeclarationLists.{variables_mirror}
 use Rattle.range_inference.proofs.Judging.{taken, member_fails, member_none, all_none}
-use Rattle.range_inference.proofs.TableLemmas.{extends_then}
+use Rattle.name_table.specs.Entries.{Extends}
+use Rattle.name_table.proofs.MirrorLemmas.{extends_with_new, extends_then}
 use Rattle.range_inference.proofs.declarations.declare_all.Goals as goal
 
 pub returns-in_err-variable-clause-first : goal.returns-in_err-variable-clause-first
@@ -33,8 +34,9 @@ loop-v-preserved g c =
           (ap (λ d. wide_lines b (d ∷ [])) (sym (λ j. declared (c.range.ensures j) (c.name-name.ensures j).line)) ∙ c.in_ok-variable.ensures.first);
       ranges = λ k scope h.
           variables_mirror name range c.loop-v.table c.variable.new.table k _ (take i xs) x scope c.name-name.result.now c.range.result c.name-name.ensures c.range.ensures
-          (taken xs x i c.loop-v-test.true c.v-item.is) (c.loop-v.invariant.ranges k scope h) c.in_ok-variable.ensures.ranges;
-      others = extends_then _ _ _ c.loop-v.invariant.others c.in_ok-variable.ensures.others;
+          (taken xs x i c.loop-v-test.true c.v-item.is) (c.loop-v.invariant.ranges k scope h) c.in_ok-variable.ensures.table;
+      others = extends_then _ _ _ c.loop-v.invariant.others
+          (subst (Extends c.loop-v.table) (sym c.in_ok-variable.ensures.table) (extends_with_new c.loop-v.table c.name-name.result.now.bytes c.range.result));
     }
 
 pub returns-clause-first : goal.returns-clause-first
@@ -48,5 +50,5 @@ pub returns-clause-ranges : goal.returns-clause-ranges
 returns-clause-ranges g c =
     let xs = c.as_slice-v-items.result.now in
     λ k scope h.
-    subst (λ l. Mirrors c.loop-v.table (with_variables g.V.Variable.name_of g.V.Variable.range_of k l scope)) (take_all c.loop-v.v-index xs (omega arith) ∙ c.as_slice-v-items.ensures)
+    subst (λ l. HasRanges c.loop-v.table (with_variables g.V.Variable.name_of g.V.Variable.range_of k l scope)) (take_all c.loop-v.v-index xs (omega arith) ∙ c.as_slice-v-items.ensures)
     (c.loop-v.invariant.ranges k scope h)
