@@ -2,7 +2,8 @@
 use Rattle.std.proofs.Common.{◌≡◌, ℕ, ◌+◌, List, [], ◌∷◌, ◌++◌, length, map, refl, sym, ap, ◌∙◌, Option, Some, None}
 use Rattle.plain_text.specs.Lookup.{lookup}
 use Rattle.name_table.proofs.LookupLemmas.{first_of, lookup-append}
-use Rattle.source_tree.specs.Scope.{Declared, variable, array, procedure, Scope, with_params, with_locals, inside}
+use Rattle.source_tree.specs.Scope.{Declared, variable, array, procedure, Scope, with_variables, inside}
+use Rattle.source_tree.specs.declared.name.Name.{Name as SourceName}
 use Rattle.source_tree.specs.declared.name.Range.{Range}
 use Rattle.source_tree.specs.declared.declaration.Local.{Local}
 use Rattle.source_tree.specs.declared.declaration.Param.{Param}
@@ -28,17 +29,15 @@ SameNames a b = (x : List ℕ) → lookup x a ≡ lookup x b
 same_more : (a b more : Scope) → SameNames a b → SameNames (a ++ more) (b ++ more)
 same_more a b more same x = lookup-append x a more ∙ ap (λ o. first_of o (lookup x more)) (same x) ∙ sym (lookup-append x b more)
 
-same_params : (k : ℕ) (params : List Param) (a b : Scope) → SameNames a b → SameNames (with_params k params a) (with_params k params b)
-same_params k [] a b same = same
-same_params k (p ∷ params) a b same = same_params (k + 1) params _ _ (same_more a b ((p.name.bytes, variable k p.range) ∷ []) same)
-
-same_locals : (k : ℕ) (locals : List Local) (a b : Scope) → SameNames a b → SameNames (with_locals k locals a) (with_locals k locals b)
-same_locals k [] a b same = same
-same_locals k (l ∷ locals) a b same = same_locals (k + 1) locals _ _ (same_more a b ((l.name.bytes, variable k l.range) ∷ []) same)
+same_variables : {A : Type 0} (name : A → SourceName) (range : A → Range) (k : ℕ) (xs : List A) (a b : Scope) → SameNames a b
+    → SameNames (with_variables name range k xs a) (with_variables name range k xs b)
+same_variables name range k [] a b same = same
+same_variables name range k (x ∷ xs) a b same = same_variables name range (k + 1) xs _ _ (same_more a b (((name x).bytes, variable k (range x)) ∷ []) same)
 
 pub same_inside : (k : ℕ) (params : List Param) (locals : List Local) (a b : Scope) → SameNames a b
     → SameNames (inside k params locals a) (inside k params locals b)
-same_inside k params locals a b same = same_locals (k + 1 + length params) locals _ _ (same_params (k + 1) params a b same)
+same_inside k params locals a b same =
+    same_variables (λ l. l.name) (λ l. l.range) (k + 1 + length params) locals _ _ (same_variables (λ p. p.name) (λ p. p.range) (k + 1) params a b same)
 
 module _ (a b : Scope) (same : SameNames a b) where
   -- ---- expressions

@@ -2,15 +2,16 @@
 use Rattle.std.proofs.Common.{◌≡◌, ℕ, ◌+◌, ◌<◌, ◌≤◌, List, [], ◌∷◌, ◌++◌, length, drop, get_or, refl, sym, ap, subst, ◌∙◌, arith, append_assoc, append-nil, length-append}
 use Rattle.std.proofs.lemmas.List.{drop_more, drop_all}
 use Rattle.plain_text.specs.Lookup.{Named}
+use Rattle.name_table.specs.Entries.{Mirrors}
+use Rattle.name_check.specs.Held.{declared_of}
+use Rattle.name_check.specs.declared.symbols.Symbol.{Symbol}
 use Rattle.source_tree.specs.Scope.{Declared, Scope, names_in, with_declared, with_all_declared}
 use Rattle.source_tree.specs.Fits.{declared_in, all_declared}
 use Rattle.source_tree.specs.declared.declaration.Declaration.{Declaration}
 use Rattle.source_tree.proofs.FitsPrograms.{length-declared_in}
 use Rattle.resolved_tree.specs.Resolution.{procedures_of, all_procedures_of}
 use Rattle.resolved_tree.specs.Slots.{slots_of}
-use Rattle.resolved_tree.specs.Symbols.{Mirrors}
 use Rattle.resolved_tree.specs.declared.slot.Slot.{Slot}
-use Rattle.resolved_tree.specs.declared.symbol.Symbol.{Symbol}
 use Rattle.resolved_tree.specs.declared.tree.Procedure.{Procedure}
 
 pub slots_of-append : (a b : List Declared) → slots_of (a ++ b) ≡ slots_of a ++ slots_of b
@@ -24,14 +25,14 @@ length-slots_of (d ∷ a) = let h : length (slots_of a) ≡ length a = length-sl
 -- what has come of a scope
 pub record Reached (ds : List Declaration) (i : ℕ) (start slots : List Slot) (before procedures : List Procedure) (table : Named Symbol) (scope : Scope) : Type 0 where
   pub now : Scope
-  pub mirrors : Mirrors table now
+  pub mirrors : Mirrors declared_of table now
   pub resolved : before ++ all_procedures_of (length start) ds scope ≡ procedures ++ all_procedures_of (length slots) (drop i ds) now
   pub names : with_all_declared (length start) ds scope ≡ with_all_declared (length slots) (drop i ds) now
 
 -- the declarations before number i are resolved
 pub record HasWalked (ds : List Declaration) (i : ℕ) (start slots : List Slot) (before procedures : List Procedure) (first table : Named Symbol) : Type 0 where
   pub numbered : start ++ slots_of (all_declared (length start) ds) ≡ slots ++ slots_of (all_declared (length slots) (drop i ds))
-  pub reached : (scope : Scope) → Mirrors first scope → Reached ds i start slots before procedures table scope
+  pub reached : (scope : Scope) → Mirrors declared_of first scope → Reached ds i start slots before procedures table scope
 
 pub walked_first : (ds : List Declaration) (start : List Slot) (before : List Procedure) (first : Named Symbol) → HasWalked ds 0 start start before before first first
 walked_first ds start before first = record {
@@ -43,8 +44,8 @@ module _ (ds : List Declaration) (i : ℕ) (start slots : List Slot) (before pro
     (walked : HasWalked ds i start slots before procedures first table) where
   pub walked_next : (d : Declaration) (next : List Slot) (more : List Procedure) (after : Named Symbol) → i < length ds → d ≡ get_or ds i d
       → next ≡ slots ++ slots_of (declared_in (length slots) d)
-      → ((scope : Scope) → Mirrors table scope → more ≡ procedures ++ procedures_of (length slots) d scope)
-      → ((scope : Scope) → Mirrors table scope → Mirrors after (with_declared (length slots) d scope))
+      → ((scope : Scope) → Mirrors declared_of table scope → more ≡ procedures ++ procedures_of (length slots) d scope)
+      → ((scope : Scope) → Mirrors declared_of table scope → Mirrors declared_of after (with_declared (length slots) d scope))
       → HasWalked ds (i + 1) start next before more first after
   walked_next d next more after within is put resolve declare =
       let left : drop i ds ≡ d ∷ drop (i + 1) ds = drop_more ds i d within ∙ ap (λ y. y ∷ drop (i + 1) ds) (sym is) in
@@ -77,12 +78,12 @@ module _ (ds : List Declaration) (i : ℕ) (start slots : List Slot) (before pro
     pub walked_slots : slots ≡ start ++ slots_of (all_declared (length start) ds)
     walked_slots = sym (walked.numbered ∙ ap (λ l. slots ++ slots_of (all_declared (length slots) l)) (drop_all i ds end) ∙ append-nil slots)
 
-    pub walked_procedures : (scope : Scope) → Mirrors first scope → procedures ≡ before ++ all_procedures_of (length start) ds scope
+    pub walked_procedures : (scope : Scope) → Mirrors declared_of first scope → procedures ≡ before ++ all_procedures_of (length start) ds scope
     walked_procedures scope h =
         let r = walked.reached scope h in
         sym (r.resolved ∙ ap (λ l. procedures ++ all_procedures_of (length slots) l r.now) (drop_all i ds end) ∙ append-nil procedures)
 
-    pub walked_names : (scope : Scope) → Mirrors first scope → Mirrors table (with_all_declared (length start) ds scope)
+    pub walked_names : (scope : Scope) → Mirrors declared_of first scope → Mirrors declared_of table (with_all_declared (length start) ds scope)
     walked_names scope h =
         let r = walked.reached scope h in
-        subst (λ (s : Scope). Mirrors table s) (sym (r.names ∙ ap (λ l. with_all_declared (length slots) l r.now) (drop_all i ds end))) r.mirrors
+        subst (λ (s : Scope). Mirrors declared_of table s) (sym (r.names ∙ ap (λ l. with_all_declared (length slots) l r.now) (drop_all i ds end))) r.mirrors

@@ -1,18 +1,20 @@
-ghost use Rattle.std.specs.Prelude.{◌≡◌, ◌+◌, List, ℕ, [], ◌∷◌, ◌++◌, IfOk, OnOk, length, map};
-ghost use Rattle.source_tree.specs.Fits.{all_declared, declared_in, locals_declared, params_declared};
+ghost use Rattle.std.specs.Prelude.{◌≡◌, ◌+◌, [], ◌∷◌, ◌++◌, IfOk, OnOk, length, map};
+ghost use Rattle.name_check.specs.Held.{declared_of};
+ghost use Rattle.name_check.specs.declared.symbols.Symbol.TheVariants as symbol;
+ghost use Rattle.name_table.specs.Entries.{Extends, Mirrors, with_new};
+ghost use Rattle.source_tree.specs.Fits.{all_declared, declared_in, locals_declared, params_declared, variables_from};
 ghost use Rattle.source_tree.specs.Meaning.{start_of};
-ghost use Rattle.source_tree.specs.Scope.{Scope, array, variable, with_all_declared, with_declared, with_locals, with_params};
+ghost use Rattle.source_tree.specs.Scope.{Scope, with_all_declared, with_declared, with_variables};
 ghost use Rattle.resolved_tree.specs.Resolution.{all_procedures_of, procedures_of, resolved_procedure};
 ghost use Rattle.resolved_tree.specs.Slots.{slots_of};
 ghost use Rattle.resolved_tree.specs.declared.slot.Slot.TheVariants.{Array, Nothing, Variable};
-ghost use Rattle.resolved_tree.specs.Symbols.{Extends, Mirrors};
 
 use crate::slot::Slot;
 use crate::steps::steps;
-use crate::symbol::Symbol;
 use crate::tree::Procedure;
+use name_check::Symbol;
 use name_table::NameTable;
-use source_tree::{Declaration, Local, Name, Param, Range, Statement};
+use source_tree::{Declaration, Local, Name, Param, Range, Statement, Variable};
 use sqlite_items::Items;
 use std::alloc::{AllocError, Global};
 
@@ -26,11 +28,11 @@ pub fn declarations(
 ) -> Result<(), AllocError>
     ensures slots { OnOk result (slots.new ≡ slots.old ++ slots_of (all_declared (length slots.old) list.now)) }
     ensures procedures { OnOk result ((scope : Scope)
-        → Mirrors table.old scope
+        → Mirrors declared_of table.old scope
         → procedures.new ≡ procedures.old ++ all_procedures_of (length slots.old) list.now scope) }
     ensures names { OnOk result ((scope : Scope)
-        → Mirrors table.old scope
-        → Mirrors table.new (with_all_declared (length slots.old) list.now scope)) }
+        → Mirrors declared_of table.old scope
+        → Mirrors declared_of table.new (with_all_declared (length slots.old) list.now scope)) }
 {
     for d in list {
         declaration(alloc, d, table, slots, procedures)?;
@@ -48,11 +50,11 @@ fn declaration(
 ) -> Result<(), AllocError>
     ensures slots { OnOk result (slots.new ≡ slots.old ++ slots_of (declared_in (length slots.old) d.now)) }
     ensures procedures { OnOk result ((scope : Scope)
-        → Mirrors table.old scope
+        → Mirrors declared_of table.old scope
         → procedures.new ≡ procedures.old ++ procedures_of (length slots.old) d.now scope) }
     ensures names { OnOk result ((scope : Scope)
-        → Mirrors table.old scope
-        → Mirrors table.new (with_declared (length slots.old) d.now scope)) }
+        → Mirrors declared_of table.old scope
+        → Mirrors declared_of table.new (with_declared (length slots.old) d.now scope)) }
 {
     match d {
         Declaration::Var { name, range, .. } => variable(alloc, name, *range, table, slots),
@@ -78,12 +80,8 @@ fn declaration(
                 slots,
                 procedures,
             )?;
-            let params = Items::from_vec(ranges(alloc, params.as_slice())?);
-            table.declare(
-                alloc,
-                name.bytes.as_slice(),
-                Symbol::Procedure { number, params },
-            )
+            let symbol = Symbol::procedure(alloc, number, params.as_slice())?;
+            table.declare(alloc, name.bytes.as_slice(), symbol)
         }
     }
 }
@@ -97,10 +95,7 @@ fn variable(
     slots: &mut Items<Slot>,
 ) -> Result<(), AllocError>
     ensures slots { OnOk result (slots.new ≡ slots.old ++ Variable (length slots.old) range ∷ []) }
-    ensures names { OnOk result ((scope : Scope)
-        → Mirrors table.old scope
-        → Mirrors table.new (scope ++ (name.now.bytes, variable (length slots.old) range) ∷ [])) }
-    ensures others { OnOk result (Extends table.old table.new) }
+    ensures table { OnOk result (table.new ≡ with_new table.old name.now.bytes (symbol.Variable (length slots.old) range)) }
 {
     let number = count(slots.len())?;
     slots.push(Slot::Variable { number, range })?;
@@ -121,9 +116,7 @@ fn array(
     slots: &mut Items<Slot>,
 ) -> Result<(), AllocError>
     ensures slots { OnOk result (slots.new ≡ slots.old ++ Array (length slots.old) size range ∷ []) }
-    ensures names { OnOk result ((scope : Scope)
-        → Mirrors table.old scope
-        → Mirrors table.new (scope ++ (name.now.bytes, array (length slots.old) size range) ∷ [])) }
+    ensures table { OnOk result (table.new ≡ with_new table.old name.now.bytes (symbol.Array (length slots.old) size range)) }
 {
     let number = count(slots.len())?;
     slots.push(Slot::Array {
@@ -156,15 +149,15 @@ fn procedure(
     ensures slots { let k = length slots.old in
         OnOk result (slots.new ≡ slots.old ++ Nothing ∷ slots_of (params_declared (k + 1) own.now ++ locals_declared (k + 1 + length own.now) inner.now)) }
     ensures procedures { OnOk result ((scope : Scope)
-        → Mirrors table.old scope
+        → Mirrors declared_of table.old scope
         → procedures.new ≡ procedures.old ++ resolved_procedure (length slots.old) own.now inner.now body.now scope ∷ []) }
     ensures table { OnOk result (table.new ≡ table.old) }
 {
     let outside = table.len();
     let number = count(slots.len())?;
     slots.push(Slot::Nothing)?;
-    params(alloc, own, table, slots)?;
-    locals(alloc, inner, table, slots)?;
+    variables(alloc, own, table, slots)?;
+    variables(alloc, inner, table, slots)?;
     let resolved = Procedure {
         number,
         params: count(own.len())?,
@@ -176,49 +169,23 @@ fn procedure(
     Ok(number)
 }
 
-/// Parameters, one after another.
-fn params(
+/// Parameters or locals, one after another.
+fn variables<V: Variable>(
     alloc: Global,
-    list: &[Param],
+    list: &[V],
     table: &mut NameTable<Symbol>,
     slots: &mut Items<Slot>,
 ) -> Result<(), AllocError>
-    ensures slots { OnOk result (slots.new ≡ slots.old ++ slots_of (params_declared (length slots.old) list.now)) }
+    ensures slots { OnOk result (slots.new ≡ slots.old ++ slots_of (variables_from (length slots.old) (map V.range_of list.now))) }
     ensures names { OnOk result ((scope : Scope)
-        → Mirrors table.old scope
-        → Mirrors table.new (with_params (length slots.old) list.now scope)) }
+        → Mirrors declared_of table.old scope
+        → Mirrors declared_of table.new (with_variables V.name_of V.range_of (length slots.old) list.now scope)) }
     ensures others { OnOk result (Extends table.old table.new) }
 {
-    for p in list {
-        variable(alloc, &p.name, p.range, table, slots)?;
+    for v in list {
+        variable(alloc, v.name(), v.range(), table, slots)?;
     }
     Ok(())
-}
-
-/// Locals, one after another.
-fn locals(
-    alloc: Global,
-    list: &[Local],
-    table: &mut NameTable<Symbol>,
-    slots: &mut Items<Slot>,
-) -> Result<(), AllocError>
-    ensures slots { OnOk result (slots.new ≡ slots.old ++ slots_of (locals_declared (length slots.old) list.now)) }
-    ensures names { OnOk result ((scope : Scope)
-        → Mirrors table.old scope
-        → Mirrors table.new (with_locals (length slots.old) list.now scope)) }
-    ensures others { OnOk result (Extends table.old table.new) }
-{
-    for l in list {
-        variable(alloc, &l.name, l.range, table, slots)?;
-    }
-    Ok(())
-}
-
-/// The ranges of parameters.
-fn ranges(alloc: Global, params: &[Param]) -> Result<Vec<Range>, AllocError>
-    ensures { IfOk result (λ found. found.items ≡ map (λ p. p.range) params.now) }
-{
-    params.iter().map(|p| p.range).collect(alloc)
 }
 
 /// The integers at which locals start.

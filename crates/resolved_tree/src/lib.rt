@@ -8,10 +8,10 @@
 
 mod declarations;
 mod laws;
+mod names;
 mod resolver;
 mod slot;
 mod steps;
-mod symbol;
 mod tree;
 mod values;
 

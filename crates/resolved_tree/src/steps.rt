@@ -1,11 +1,12 @@
 ghost use Rattle.std.specs.Prelude.{◌≡◌, IfOk};
 ghost use Rattle.plain_text.specs.Lookup.{lookup};
+ghost use Rattle.name_check.specs.Held.{scope_in};
 ghost use Rattle.resolved_tree.specs.Resolution.{resolved_arguments, resolved_call, resolved_statement, resolved_statements};
-ghost use Rattle.resolved_tree.specs.Symbols.{scope_of};
 
-use crate::symbol::{Symbol, find, slot};
+use crate::names::{find, slot};
 use crate::tree::{Argument, Step};
 use crate::values::{target, test, value};
+use name_check::Symbol;
 use name_table::NameTable;
 use source_tree::{Expr, Name, Range, Statement};
 use sqlite_items::Items;
@@ -18,7 +19,7 @@ pub fn steps(
     list: &[Statement],
     table: &NameTable<Symbol>,
 ) -> Result<Items<Step>, AllocError>
-    ensures { IfOk result (λ steps. steps ≡ resolved_statements list.now (scope_of table.now)) }
+    ensures { IfOk result (λ steps. steps ≡ resolved_statements list.now (scope_in table.now)) }
 {
     let mut found = Items::new(alloc);
     for s in list {
@@ -30,7 +31,7 @@ pub fn steps(
 /// A statement, resolved.
 #[cycle(step)]
 fn step(alloc: Global, s: &Statement, table: &NameTable<Symbol>) -> Result<Step, AllocError>
-    ensures { IfOk result (λ step. step ≡ resolved_statement s.now (scope_of table.now)) }
+    ensures { IfOk result (λ step. step ≡ resolved_statement s.now (scope_in table.now)) }
 {
     match s {
         Statement::Assign {
@@ -99,7 +100,7 @@ fn call(
     line: u32,
     table: &NameTable<Symbol>,
 ) -> Result<Step, AllocError>
-    ensures { IfOk result (λ step. step ≡ resolved_call (lookup name.now.bytes (scope_of table.now)) es.now line (scope_of table.now)) }
+    ensures { IfOk result (λ step. step ≡ resolved_call (lookup name.now.bytes (scope_in table.now)) es.now line (scope_in table.now)) }
 {
     match find(name, table) {
         Some(Symbol::Procedure { number, params }) => Ok(Step::Call {
@@ -120,7 +121,7 @@ fn arguments(
     params: &[Range],
     table: &NameTable<Symbol>,
 ) -> Result<Items<Argument>, AllocError>
-    ensures { IfOk result (λ arguments. arguments ≡ resolved_arguments es.now params.now (scope_of table.now)) }
+    ensures { IfOk result (λ arguments. arguments ≡ resolved_arguments es.now params.now (scope_in table.now)) }
 {
     let mut found = Items::new(alloc);
     for e in es {

@@ -1,9 +1,10 @@
 ghost use Rattle.std.specs.Prelude.{◌≡◌, IfOk};
+ghost use Rattle.name_check.specs.Held.{scope_in};
 ghost use Rattle.resolved_tree.specs.Resolution.{resolved_condition, resolved_expr, resolved_place};
-ghost use Rattle.resolved_tree.specs.Symbols.{scope_of};
 
-use crate::symbol::{Symbol, slot};
+use crate::names::slot;
 use crate::tree::{Target, Test, Value};
+use name_check::Symbol;
 use name_table::NameTable;
 use source_tree::{Condition, Expr, Place};
 use sqlite_items::Boxed;
@@ -11,7 +12,7 @@ use std::alloc::{AllocError, Global};
 
 /// An expression, resolved.
 pub fn value(alloc: Global, e: &Expr, table: &NameTable<Symbol>) -> Result<Value, AllocError>
-    ensures { IfOk result (λ v. v ≡ resolved_expr e.now (scope_of table.now)) }
+    ensures { IfOk result (λ v. v ≡ resolved_expr e.now (scope_in table.now)) }
 {
     match e {
         Expr::Number { value: n, .. } => Ok(Value::Number { value: *n }),
@@ -56,7 +57,7 @@ pub fn test(
     condition: &Condition,
     table: &NameTable<Symbol>,
 ) -> Result<Test, AllocError>
-    ensures { IfOk result (λ t. t ≡ resolved_condition condition.now (scope_of table.now)) }
+    ensures { IfOk result (λ t. t ≡ resolved_condition condition.now (scope_in table.now)) }
 {
     let left = value(alloc, &condition.left, table)?;
     let right = value(alloc, &condition.right, table)?;
@@ -69,7 +70,7 @@ pub fn test(
 
 /// A place, resolved.
 pub fn target(alloc: Global, place: &Place, table: &NameTable<Symbol>) -> Result<Target, AllocError>
-    ensures { IfOk result (λ t. t ≡ resolved_place place.now (scope_of table.now)) }
+    ensures { IfOk result (λ t. t ≡ resolved_place place.now (scope_in table.now)) }
 {
     match place {
         Place::Name(name) => Ok(Target::Integer {
