@@ -1,5 +1,5 @@
 -- Declarations, parameters and locals, one more at a time.
-use Rattle.std.proofs.Common.{◌≡◌, ℕ, zero, suc, ◌+◌, ◌<◌, List, [], ◌∷◌, ◌++◌, length, take, get_or, refl, sym, ap, ◌∙◌, subst, arith, append_assoc, append-nil}
+use Rattle.std.proofs.Common.{◌≡◌, ℕ, ℤ, zero, suc, ◌+◌, ◌<◌, List, [], ◌∷◌, ◌++◌, length, take, get_or, refl, sym, ap, ◌∙◌, subst, arith, append_assoc, append-nil}
 use Rattle.plain_text.specs.Lookup.{Named}
 use Rattle.name_table.specs.Entries.{with_new}
 use Rattle.source_tree.specs.Scope.{Scope, variable, with_variables, inside, with_declared, names_in, with_all_declared, range_at}
@@ -10,9 +10,11 @@ use Rattle.source_tree.specs.declared.declaration.Local.{Local}
 use Rattle.source_tree.specs.declared.declaration.Declaration.{Declaration}
 use Rattle.source_tree.specs.declared.declaration.Program.{Program}
 use Rattle.source_tree.specs.declared.statement.Statement.{Statement}
-use Rattle.range_inference.specs.Demands.{Demand, variables_demands, params_demands, locals_demands, statements_demands, procedure_demands, declaration_demands, declarations_demands, demands_of, node_intervals}
+use Rattle.range_inference.specs.Demands.{Demand, variables_demands, params_demands, locals_demands, statements_demands, procedure_demands, declaration_demands, declarations_demands, demands_of, node_intervals, wide_lines}
+use Rattle.range_inference.specs.Outcome.{IsPassed}
 use Rattle.range_inference.specs.Table.{HasRanges, range_in}
-use Rattle.range_inference.proofs.Judging.{Two, Three, nodes-append}
+use Rattle.range_inference.specs.declared.interval.Interval.{Interval}
+use Rattle.range_inference.proofs.Judging.{Two, Three, passed_without}
 use Rattle.range_inference.proofs.TableLemmas.{ranges_are, has_more}
 
 module _ {A : Type 0} (name : A → Name) (range : A → Range) where
@@ -31,9 +33,12 @@ module _ {A : Type 0} (name : A → Name) (range : A → Range) where
       (has_more before after (with_variables name range k xs scope) (name x).bytes (variable one.0 (range x)) h
       (more ∙ (λ j. with_new before (same_name j).bytes (same_range j))))
 
-  pub variables_have_no_nodes : (xs : List A) → node_intervals (variables_demands name range xs) ≡ []
+  variables_have_no_nodes : (xs : List A) → node_intervals (variables_demands name range xs) ≡ []
   variables_have_no_nodes [] = refl
   variables_have_no_nodes (x ∷ xs) = variables_have_no_nodes xs
+
+  pub variables_passed : (bound : ℤ) (xs : List A) (start : List Interval) → wide_lines bound (variables_demands name range xs) ≡ [] → IsPassed bound (variables_demands name range xs) start start
+  variables_passed bound xs start none = passed_without bound (variables_demands name range xs) start (variables_have_no_nodes xs) none
 
 -- ---- declaration i
 pub record At (k : ℕ) (ds : List Declaration) (d : Declaration) (i : ℕ) (scope : Scope) : Type 0 where
@@ -68,9 +73,14 @@ at_declaration k (x ∷ ds) d (suc i) scope h is =
       names = a.names;
     }
 
-pub nodes_behind : (a b d : List Demand) → node_intervals a ≡ [] → node_intervals b ≡ [] → node_intervals d ≡ node_intervals (a ++ (b ++ d))
-nodes_behind a b d h k =
-    sym (nodes-append a (b ++ d) ∙ ap (λ l. l ++ node_intervals (b ++ d)) h ∙ nodes-append b d ∙ ap (λ l. l ++ node_intervals d) k)
+-- what it, those before it and those after it demand
+abbrev pub parted_at : (k : ℕ) (ds : List Declaration) (d : Declaration) (i : ℕ) (scope : Scope) → At k ds d i scope → Three (declarations_demands k ds scope)
+parted_at k ds d i scope a = record {
+  one = declarations_demands k (take i ds) scope;
+  two = declaration_demands a.number d (with_all_declared k (take i ds) scope);
+  three = a.rest;
+  is = a.whole;
+}
 
 -- ---- a procedure, whose inside has the ranges of a table
 module _ (k : ℕ) (own : List Param) (inner : List Local) (body : List Statement) (scope : Scope) where

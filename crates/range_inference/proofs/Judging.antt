@@ -7,16 +7,16 @@ use Rattle.std.proofs.Math.Seq.{take-suc}
 use Rattle.std.proofs.lemmas.List.{take_all}
 use Rattle.range_inference.specs.Demands.{Demand, wide_lines, interval_in, node_intervals, demanded, line_of}
 use Rattle.range_inference.specs.Interval.{is_within_bound}
-use Rattle.range_inference.specs.Outcome.{IsFirst, IsJudged, IsRequired}
+use Rattle.range_inference.specs.Outcome.{IsFirst, IsJudged, IsPassed, IsRequired, Walks}
 use Rattle.range_inference.specs.declared.fault.RangeFault.{RangeFault}
 use Rattle.range_inference.specs.declared.fault.RangeFault.TheVariants.{TooWide, NoMemory}
 use Rattle.range_inference.specs.declared.interval.Interval.{Interval}
 
-pub flat-append : {X Y : Type 0} (f : X → List Y) (a b : List X) → flat_map f (a ++ b) ≡ flat_map f a ++ flat_map f b
+flat-append : {X Y : Type 0} (f : X → List Y) (a b : List X) → flat_map f (a ++ b) ≡ flat_map f a ++ flat_map f b
 flat-append f [] b = refl
 flat-append f (x ∷ a) b = ap (λ l. f x ++ l) (flat-append f a b) ∙ sym (append_assoc (f x) (flat_map f a) (flat_map f b))
 
-pub nodes-append : (a b : List Demand) → node_intervals (a ++ b) ≡ node_intervals a ++ node_intervals b
+nodes-append : (a b : List Demand) → node_intervals (a ++ b) ≡ node_intervals a ++ node_intervals b
 nodes-append a b = flat-append interval_in a b
 
 pub taken : {X : Type 0} (xs : List X) (x : X) (i : ℕ) → i < length xs → x ≡ get_or xs i x → take (i + 1) xs ≡ take i xs ++ x ∷ []
@@ -45,50 +45,38 @@ abbrev pub parted_rest : {whole : List Demand} (p : Three whole) → Two (p.two 
 parted_rest p = record { one = p.two; two = p.three; is = refl }
 
 module _ (bound : ℤ) where
-  pub wide-append : (a b : List Demand) → wide_lines bound (a ++ b) ≡ wide_lines bound a ++ wide_lines bound b
+  wide-append : (a b : List Demand) → wide_lines bound (a ++ b) ≡ wide_lines bound a ++ wide_lines bound b
   wide-append a b = flat-append (λ d. if is_within_bound bound (demanded d) then [] else line_of d ∷ []) a b
 
-  pub none_then : (a b : List Demand) → wide_lines bound a ≡ [] → wide_lines bound (a ++ b) ≡ wide_lines bound b
+  none_then : (a b : List Demand) → wide_lines bound a ≡ [] → wide_lines bound (a ++ b) ≡ wide_lines bound b
   none_then a b h = wide-append a b ∙ ap (λ l. l ++ wide_lines bound b) h
 
-  pub none_both : (a b : List Demand) → wide_lines bound a ≡ [] → wide_lines bound b ≡ [] → wide_lines bound (a ++ b) ≡ []
+  none_both : (a b : List Demand) → wide_lines bound a ≡ [] → wide_lines bound b ≡ [] → wide_lines bound (a ++ b) ≡ []
   none_both a b h k = none_then a b h ∙ k
 
-  -- ---- a part that is refused
+  -- ---- what is reported of a part
   pub told : {A : Type 0} (demands : List Demand) (fault : RangeFault) (result : Result A RangeFault)
       → IsFirst (wide_lines bound demands) fault → IsErrAnd result (λ own. own ≡ fault) → IsJudged bound demands result
   told demands fault (Ok x) first same = absurd same
   told demands fault (Err own) first same = subst (λ f. IsFirst (wide_lines bound demands) f) (sym same) first
 
-  -- the first of two parts
-  pub first_fails : {A : Type 0} {whole : List Demand} (p : Two whole) (fault : RangeFault) (result : Result A RangeFault)
-      → IsFirst (wide_lines bound p.one) fault → IsErrAnd result (λ own. own ≡ fault) → IsJudged bound whole result
-  first_fails {A} {whole} p fault result first same =
-      told whole fault result
-      (subst (λ l. IsFirst l fault) (sym (ap (wide_lines bound) p.is ∙ wide-append p.one p.two)) (first-append (wide_lines bound p.one) (wide_lines bound p.two) fault first)) same
+  pub reports : {A : Type 0} (demands : List Demand) (before after : List Interval) (fault : RangeFault) (result : Result A RangeFault)
+      → IsErrAnd result (λ own. own ≡ fault) → IsFirst (wide_lines bound demands) fault → Walks bound demands before result after
+  reports demands before after fault (Ok x) same first = absurd same
+  reports demands before after fault (Err own) same first = subst (λ f. IsFirst (wide_lines bound demands) f) (sym same) first
 
-  -- parts of which nothing is too wide
-  pub none_two : {whole : List Demand} (p : Two whole) → wide_lines bound p.one ≡ [] → wide_lines bound p.two ≡ [] → wide_lines bound whole ≡ []
-  none_two p one two = ap (wide_lines bound) p.is ∙ none_both p.one p.two one two
+  -- of the first of two parts
+  pub stops : {whole : List Demand} (p : Two whole) (fault : RangeFault) → IsFirst (wide_lines bound p.one) fault → IsFirst (wide_lines bound whole) fault
+  stops p fault first =
+      subst (λ l. IsFirst l fault) (sym (ap (wide_lines bound) p.is ∙ wide-append p.one p.two)) (first-append (wide_lines bound p.one) (wide_lines bound p.two) fault first)
 
-  pub none_three : {whole : List Demand} (p : Three whole) → wide_lines bound p.one ≡ [] → wide_lines bound p.two ≡ [] → wide_lines bound p.three ≡ [] → wide_lines bound whole ≡ []
-  none_three p one two three = none_two (parted_first p) one (none_two (parted_rest p) two three)
+  -- of the second, where nothing of the first is too wide
+  pub stops_later : {whole : List Demand} (p : Two whole) (fault : RangeFault) → wide_lines bound p.one ≡ [] → IsFirst (wide_lines bound p.two) fault → IsFirst (wide_lines bound whole) fault
+  stops_later p fault none first = subst (λ l. IsFirst l fault) (sym (ap (wide_lines bound) p.is ∙ none_then p.one p.two none)) first
 
-  -- what is judged behind a part of which nothing is too wide
-  pub judged_last : {A : Type 0} {whole : List Demand} (p : Two whole) (result : Result A RangeFault)
-      → wide_lines bound p.one ≡ [] → IsJudged bound p.two result → IsJudged bound whole result
-  judged_last p (Ok x) none h = none_two p none h
-  judged_last p (Err fault) none h = subst (λ l. IsFirst l fault) (sym (ap (wide_lines bound) p.is ∙ none_then p.one p.two none)) h
-
-  -- the second of three parts
-  pub next_fails : {A : Type 0} {whole : List Demand} (p : Three whole) (fault : RangeFault) (result : Result A RangeFault)
-      → wide_lines bound p.one ≡ [] → IsFirst (wide_lines bound p.two) fault → IsErrAnd result (λ own. own ≡ fault) → IsJudged bound whole result
-  next_fails p fault result none first same = judged_last (parted_first p) result none (first_fails (parted_rest p) fault result first same)
-
-  -- the last of three parts
-  pub judged_third : {A : Type 0} {whole : List Demand} (p : Three whole) (result : Result A RangeFault)
-      → wide_lines bound p.one ≡ [] → wide_lines bound p.two ≡ [] → IsJudged bound p.three result → IsJudged bound whole result
-  judged_third p result none after h = judged_last (parted_first p) result none (judged_last (parted_rest p) result after h)
+  -- of the second of three
+  pub stops_next : {whole : List Demand} (p : Three whole) (fault : RangeFault) → wide_lines bound p.one ≡ [] → IsFirst (wide_lines bound p.two) fault → IsFirst (wide_lines bound whole) fault
+  stops_next p fault none first = stops_later (parted_first p) fault none (stops (parted_rest p) fault first)
 
   -- a demand that is required
   pub required : (d : Demand) (i : Interval) (line : ℕ) (result : Result ⊤ RangeFault) → i ≡ demanded d → line_of d ≡ line
@@ -104,32 +92,47 @@ module _ (bound : ℤ) where
       )
 
   -- ---- parts, one after another
-  -- nothing was too wide, and the intervals stand behind those from the start
-  pub record Done (demands : List Demand) (start now : List Interval) : Type 0 where
-    pub none : wide_lines bound demands ≡ []
-    pub put : now ≡ start ++ node_intervals demands
+  pub nothing_passed : (start : List Interval) → IsPassed bound [] start start
+  nothing_passed start = (refl, sym (append-nil start))
 
-  pub nothing_done : (start : List Interval) → Done [] start start
-  nothing_done start = record { none = refl; put = sym (append-nil start) }
+  pub passed_then : {whole : List Demand} (p : Two whole) (before middle after : List Interval)
+      → IsPassed bound p.one before middle → IsPassed bound p.two middle after → IsPassed bound whole before after
+  passed_then p before middle after one two = (
+    ap (wide_lines bound) p.is ∙ none_both p.one p.two one.0 two.0,
+    two.1 ∙ ap (λ l. l ++ node_intervals p.two) one.1 ∙ append_assoc before (node_intervals p.one) (node_intervals p.two)
+        ∙ ap (λ l. before ++ l) (sym (nodes-append p.one p.two)) ∙ ap (λ l. before ++ node_intervals l) (sym p.is),
+  )
 
-  pub done_then : (a b : List Demand) (start now next : List Interval) → Done a start now → wide_lines bound b ≡ [] → next ≡ now ++ node_intervals b
-      → Done (a ++ b) start next
-  done_then a b start now next done none put = record {
-    none = none_both a b done.none none;
-    put =
-        put ∙ ap (λ l. l ++ node_intervals b) done.put ∙ append_assoc start (node_intervals a) (node_intervals b)
-        ∙ ap (λ l. start ++ l) (sym (nodes-append a b));
-  }
+  pub passed_third : {whole : List Demand} (p : Three whole) (before middle later after : List Interval)
+      → IsPassed bound p.one before middle → IsPassed bound p.two middle later → IsPassed bound p.three later after → IsPassed bound whole before after
+  passed_third p before middle later after one two three = passed_then (parted_first p) before middle after one (passed_then (parted_rest p) middle later after two three)
 
-  pub done_same : (a b : List Demand) (start now : List Interval) → b ≡ a → Done a start now → Done b start now
-  done_same a b start now is done = subst (λ ds. Done ds start now) (sym is) done
+  -- a walk over the last of two parts, and over the last of three
+  pub walks_on : {A : Type 0} {whole : List Demand} (p : Two whole) (before middle after : List Interval) (result : Result A RangeFault)
+      → IsPassed bound p.one before middle → Walks bound p.two middle result after → Walks bound whole before result after
+  walks_on p before middle after (Ok x) one two = passed_then p before middle after one two
+  walks_on p before middle after (Err fault) one two = stops_later p fault one.0 two
+
+  pub walks_third : {A : Type 0} {whole : List Demand} (p : Three whole) (before middle later after : List Interval) (result : Result A RangeFault)
+      → IsPassed bound p.one before middle → IsPassed bound p.two middle later → Walks bound p.three later result after → Walks bound whole before result after
+  walks_third p before middle later after result one two three =
+      walks_on (parted_first p) before middle after result one (walks_on (parted_rest p) middle later after result two three)
+
+  -- a part that has no nodes
+  pub passed_without : (demands : List Demand) (start : List Interval) → node_intervals demands ≡ [] → wide_lines bound demands ≡ [] → IsPassed bound demands start start
+  passed_without demands start no_nodes none = (none, sym (ap (λ l. start ++ l) no_nodes ∙ append-nil start))
+
+  pub walks_without : {A : Type 0} (demands : List Demand) (start : List Interval) (result : Result A RangeFault) → node_intervals demands ≡ []
+      → IsJudged bound demands result → Walks bound demands start result start
+  walks_without demands start (Ok x) no_nodes h = passed_without demands start no_nodes h
+  walks_without demands start (Err fault) no_nodes h = h
 
   -- ---- over a list
   module _ {X : Type 0} (f : X → List Demand) (xs : List X) (x : X) (i : ℕ) (h : i < length xs) (is : x ≡ get_or xs i x) where
     pub more : flat_map f (take (i + 1) xs) ≡ flat_map f (take i xs) ++ f x
     more = ap (flat_map f) (taken xs x i h is) ∙ flat-append f (take i xs) (x ∷ []) ∙ ap (λ l. flat_map f (take i xs) ++ l) (append-nil (f x))
 
-  pub parted : {X : Type 0} (f : X → List Demand) (xs : List X) (x : X) (i : ℕ) → i < length xs → x ≡ get_or xs i x
+  parted : {X : Type 0} (f : X → List Demand) (xs : List X) (x : X) (i : ℕ) → i < length xs → x ≡ get_or xs i x
       → (rest : List Demand) × (flat_map f xs ≡ flat_map f (take i xs) ++ (f x ++ rest))
   parted f [] x i h is = absurd (omega arith)
   parted f (y ∷ xs) x zero h is = (flat_map f xs, ap (λ z. f z ++ flat_map f xs) (sym is))
@@ -137,20 +140,26 @@ module _ (bound : ℤ) where
       let r = parted f xs x i (omega arith) is in
       (r.0, ap (λ l. f y ++ l) r.1 ∙ sym (append_assoc (f y) (flat_map f (take i xs)) (f x ++ r.0)))
 
-  pub member_fails : {A X : Type 0} (f : X → List Demand) (xs : List X) (x : X) (i : ℕ) (fault : RangeFault) (result : Result A RangeFault)
-      → i < length xs → x ≡ get_or xs i x → wide_lines bound (flat_map f (take i xs)) ≡ []
-      → IsFirst (wide_lines bound (f x)) fault → IsErrAnd result (λ own. own ≡ fault) → IsJudged bound (flat_map f xs) result
-  member_fails f xs x i fault result h is none first same =
+  -- what is reported of member i
+  pub member_stops : {X : Type 0} (f : X → List Demand) (xs : List X) (x : X) (i : ℕ) (fault : RangeFault) → i < length xs → x ≡ get_or xs i x
+      → wide_lines bound (flat_map f (take i xs)) ≡ [] → IsFirst (wide_lines bound (f x)) fault → IsFirst (wide_lines bound (flat_map f xs)) fault
+  member_stops f xs x i fault h is none first =
       let r = parted f xs x i h is in
       let p : Three (flat_map f xs) = record { one = flat_map f (take i xs); two = f x; three = r.0; is = r.1 } in
-      next_fails p fault result none first same
+      stops_next p fault none first
 
-  pub member_done : {X : Type 0} (f : X → List Demand) (xs : List X) (x : X) (i : ℕ) (start now next : List Interval)
-      → i < length xs → x ≡ get_or xs i x → Done (flat_map f (take i xs)) start now
-      → wide_lines bound (f x) ≡ [] → next ≡ now ++ node_intervals (f x) → Done (flat_map f (take (i + 1) xs)) start next
-  member_done f xs x i start now next h is done none put =
-      done_same _ _ start next (more f xs x i h is) (done_then (flat_map f (take i xs)) (f x) start now next done none put)
+  pub member_passed : {X : Type 0} (f : X → List Demand) (xs : List X) (x : X) (i : ℕ) (start now next : List Interval)
+      → i < length xs → x ≡ get_or xs i x → IsPassed bound (flat_map f (take i xs)) start now
+      → IsPassed bound (f x) now next → IsPassed bound (flat_map f (take (i + 1) xs)) start next
+  member_passed f xs x i start now next h is before own =
+      let p : Two (flat_map f (take (i + 1) xs)) = record { one = flat_map f (take i xs); two = f x; is = more f xs x i h is } in
+      passed_then p start now next before own
 
+  pub all_passed : {X : Type 0} (f : X → List Demand) (xs all : List X) (i : ℕ) (start now : List Interval)
+      → length xs ≤ i → xs ≡ all → IsPassed bound (flat_map f (take i xs)) start now → IsPassed bound (flat_map f all) start now
+  all_passed f xs all i start now h same passed = subst (λ l. IsPassed bound (flat_map f l) start now) (take_all i xs h ∙ same) passed
+
+  -- the same without nodes
   pub member_none : {X : Type 0} (f : X → List Demand) (xs : List X) (x : X) (i : ℕ)
       → i < length xs → x ≡ get_or xs i x → wide_lines bound (flat_map f (take i xs)) ≡ [] → wide_lines bound (f x) ≡ []
       → wide_lines bound (flat_map f (take (i + 1) xs)) ≡ []
@@ -161,10 +170,6 @@ module _ (bound : ℤ) where
       → length xs ≤ i → wide_lines bound (flat_map f (take i xs)) ≡ [] → wide_lines bound (flat_map f xs) ≡ []
   all_none f xs i h none = ap (λ l. wide_lines bound (flat_map f l)) (sym (take_all i xs h)) ∙ none
 
-  pub all_done : {X : Type 0} (f : X → List Demand) (xs : List X) (i : ℕ) (start now : List Interval)
-      → length xs ≤ i → Done (flat_map f (take i xs)) start now → Done (flat_map f xs) start now
-  all_done f xs i start now h done = done_same _ _ start now (ap (flat_map f) (sym (take_all i xs h))) done
-
 pub if_ok_more : {A E : Type 0} (result : Result A E) (P Q : A → Type 0) → IfOk result P → ((x : A) → P x → Q x) → IfOk result Q
 if_ok_more (Ok x) P Q h k = k x h
 if_ok_more (Err e) P Q h k = tt
@@ -172,14 +177,3 @@ if_ok_more (Err e) P Q h k = tt
 pub on_ok_more : {A E : Type 0} (result : Result A E) (P Q : Type 0) → OnOk result P → (P → Q) → OnOk result Q
 on_ok_more (Ok x) P Q h k = k h
 on_ok_more (Err e) P Q h k = tt
-
--- ---- the intervals of parts
-pub put_two : {whole : List Demand} (p : Two whole) (start now next : List Interval)
-    → now ≡ start ++ node_intervals p.one → next ≡ now ++ node_intervals p.two → next ≡ start ++ node_intervals whole
-put_two p start now next one two =
-    two ∙ ap (λ l. l ++ node_intervals p.two) one ∙ append_assoc start (node_intervals p.one) (node_intervals p.two)
-    ∙ ap (λ l. start ++ l) (sym (nodes-append p.one p.two)) ∙ ap (λ l. start ++ node_intervals l) (sym p.is)
-
-pub put_three : {whole : List Demand} (p : Three whole) (start now next last : List Interval)
-    → now ≡ start ++ node_intervals p.one → next ≡ now ++ node_intervals p.two → last ≡ next ++ node_intervals p.three → last ≡ start ++ node_intervals whole
-put_three p start now next last one two three = put_two (parted_first p) start now last one (put_two (parted_rest p) now next last two three)

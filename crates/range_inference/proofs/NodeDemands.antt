@@ -62,6 +62,10 @@ module _ (ranges : Ranges) where
       → interval_of e ranges ≡ interval_by o (interval_of left ranges) (interval_of right ranges)
   interval_of-Binary e left o right line is = ap (λ f. interval_of f ranges) is ∙ ap (λ (f : Ranges → Interval). f ranges) (interval-Binary left o right line)
 
+-- an operator's node, by its sides as they were taken
+pub binary_is : (e left : Expr) (o : Operator) (right : Expr) (line : ℕ) (l r : Expr) → e ≡ Binary left o right line → l ≡ left → r ≡ right → e ≡ Binary l o r line
+binary_is e left o right line l r is same_left same_right = is ∙ (λ j. Binary (sym same_left j) o (sym same_right j) line)
+
 -- ---- intervals within a bound
 pub small_within : (bound : ℤ) (i : Interval) → IsSetBound bound → is_within_bound bound i ≡ true → IsSmall i
 small_within bound i b h =

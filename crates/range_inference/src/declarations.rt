@@ -1,7 +1,7 @@
-ghost use Rattle.std.specs.Prelude.{◌≡◌, ℕ, ◌∷◌, [], ◌++◌, OnOk};
+ghost use Rattle.std.specs.Prelude.{◌≡◌, ℕ, ◌∷◌, [], OnOk};
 ghost use Rattle.name_table.specs.Entries.{Extends, with_new};
-ghost use Rattle.range_inference.specs.Demands.{declaration_demands, declarations_demands, declared, node_intervals, procedure_demands, variables_demands};
-ghost use Rattle.range_inference.specs.Outcome.{IsJudged};
+ghost use Rattle.range_inference.specs.Demands.{declaration_demands, declarations_demands, declared, procedure_demands, variables_demands};
+ghost use Rattle.range_inference.specs.Outcome.{IsJudged, Walks};
 ghost use Rattle.range_inference.specs.Table.{HasRanges};
 ghost use Rattle.source_tree.specs.Scope.{Scope, with_all_declared, with_declared, with_variables};
 
@@ -25,8 +25,7 @@ pub fn declarations(
     intervals: &mut Items<Interval>,
 ) -> Result<(), RangeFault>
     requires { table.old ≡ [] }
-    ensures first { IsJudged bound.value (declarations_demands 0 list.now []) result }
-    ensures intervals { OnOk result (intervals.new ≡ intervals.old ++ node_intervals (declarations_demands 0 list.now [])) }
+    ensures walk { Walks bound.value (declarations_demands 0 list.now []) intervals.old result intervals.new }
     ensures ranges { OnOk result (HasRanges table.new (with_all_declared 0 list.now [])) }
 {
     for d in list.as_slice() {
@@ -43,12 +42,9 @@ fn declaration(
     bound: Bound,
     intervals: &mut Items<Interval>,
 ) -> Result<(), RangeFault>
-    ensures first { (k : ℕ) (scope : Scope)
+    ensures walk { (k : ℕ) (scope : Scope)
         → HasRanges table.old scope
-        → IsJudged bound.value (declaration_demands k d.now scope) result }
-    ensures intervals { (k : ℕ) (scope : Scope)
-        → HasRanges table.old scope
-        → OnOk result (intervals.new ≡ intervals.old ++ node_intervals (declaration_demands k d.now scope)) }
+        → Walks bound.value (declaration_demands k d.now scope) intervals.old result intervals.new }
     ensures ranges { (k : ℕ) (scope : Scope)
         → HasRanges table.old scope
         → OnOk result (HasRanges table.new (with_declared k d.now scope)) }
@@ -87,12 +83,9 @@ fn procedure(
     bound: Bound,
     intervals: &mut Items<Interval>,
 ) -> Result<(), RangeFault>
-    ensures first { (k : ℕ) (scope : Scope)
+    ensures walk { (k : ℕ) (scope : Scope)
         → HasRanges table.old scope
-        → IsJudged bound.value (procedure_demands k own.now inner.now body.now scope) result }
-    ensures intervals { (k : ℕ) (scope : Scope)
-        → HasRanges table.old scope
-        → OnOk result (intervals.new ≡ intervals.old ++ node_intervals (procedure_demands k own.now inner.now body.now scope)) }
+        → Walks bound.value (procedure_demands k own.now inner.now body.now scope) intervals.old result intervals.new }
     ensures table { OnOk result (table.new ≡ table.old) }
 {
     let outside = table.len();

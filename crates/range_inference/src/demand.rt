@@ -1,7 +1,7 @@
-ghost use Rattle.std.specs.Prelude.{◌≡◌, ◌∷◌, [], ◌++◌, true, IfOk, OnOk};
+ghost use Rattle.std.specs.Prelude.{◌≡◌, ◌∷◌, [], true, IfOk};
 ghost use Rattle.range_inference.specs.Demands.{node};
 ghost use Rattle.range_inference.specs.Interval.{is_within_bound};
-ghost use Rattle.range_inference.specs.Outcome.{IsRequired, IsJudged};
+ghost use Rattle.range_inference.specs.Outcome.{IsRequired, Walks};
 
 use crate::bound::Bound;
 use crate::fault::RangeFault;
@@ -27,8 +27,7 @@ pub fn put(
     intervals: &mut Items<Interval>,
 ) -> Result<Interval, RangeFault>
     ensures value { IfOk result (λ i. (i ≡ interval) × (is_within_bound bound.value interval ≡ true)) }
-    ensures first { IsJudged bound.value (node interval line ∷ []) result }
-    ensures intervals { OnOk result (intervals.new ≡ intervals.old ++ interval ∷ []) }
+    ensures walk { Walks bound.value (node interval line ∷ []) intervals.old result intervals.new }
 {
     require(interval, line, bound)?;
     intervals.push(interval)?;

@@ -1,7 +1,8 @@
-ghost use Rattle.std.specs.Prelude.{◌≡◌, ◌++◌, true, IfOk, OnOk};
-ghost use Rattle.range_inference.specs.Demands.{condition_demands, expr_demands, exprs_demands, node_intervals, place_demands};
-ghost use Rattle.range_inference.specs.Interval.{interval_of, is_within_bound};
-ghost use Rattle.range_inference.specs.Outcome.{IsJudged};
+ghost use Rattle.std.specs.Prelude.{◌≡◌, ◌∷◌, [], true, IfOk};
+ghost use Rattle.range_inference.specs.Demands.{condition_demands, expr_demands, exprs_demands, node, place_demands};
+ghost use Rattle.range_inference.specs.Interval.{interval_by, interval_of, is_within_bound};
+ghost use Rattle.range_inference.specs.Operators.{IsSmall};
+ghost use Rattle.range_inference.specs.Outcome.{Walks};
 ghost use Rattle.range_inference.specs.Table.{range_in};
 
 use crate::bound::Bound;
@@ -11,7 +12,7 @@ use crate::interval::Interval;
 use crate::operators::{combined, negated};
 use crate::ranges::range_of;
 use name_table::NameTable;
-use source_tree::{Condition, Expr, Place, Range};
+use source_tree::{Condition, Expr, Operator, Place, Range};
 use sqlite_items::Items;
 
 /// The interval of an expression. Those of its nodes are put behind the others.
@@ -22,8 +23,7 @@ pub fn expr(
     intervals: &mut Items<Interval>,
 ) -> Result<Interval, RangeFault>
     ensures value { IfOk result (λ i. (i ≡ interval_of e.now (range_in table.now)) × (is_within_bound bound.value i ≡ true)) }
-    ensures first { IsJudged bound.value (expr_demands e.now (range_in table.now)) result }
-    ensures intervals { OnOk result (intervals.new ≡ intervals.old ++ node_intervals (expr_demands e.now (range_in table.now))) }
+    ensures walk { Walks bound.value (expr_demands e.now (range_in table.now)) intervals.old result intervals.new }
 {
     match e {
         Expr::Number { value, line } => put(Interval::one(*value), *line, bound, intervals),
@@ -48,12 +48,42 @@ pub fn expr(
         } => {
             let a = expr(left.get(), table, bound, intervals)?;
             let b = expr(right.get(), table, bound, intervals)?;
-            match combined(*operator, a, b) {
-                Some(interval) => put(interval, *line, bound, intervals),
-                None => Err(RangeFault::TooWide(*line)),
-            }
+            put_combined(*operator, a, b, *line, bound, intervals)
         }
     }
+}
+
+/// Puts the interval of an operator's results behind the others.
+fn put_combined(
+    operator: Operator,
+    a: Interval,
+    b: Interval,
+    line: u32,
+    bound: Bound,
+    intervals: &mut Items<Interval>,
+) -> Result<Interval, RangeFault>
+    requires left { IsSmall a }
+    requires right { IsSmall b }
+    ensures value { IfOk result (λ i. (i ≡ interval_by operator a b) × (is_within_bound bound.value i ≡ true)) }
+    ensures walk { Walks bound.value (node (interval_by operator a b) line ∷ []) intervals.old result intervals.new }
+{
+    match combined(operator, a, b) {
+        Some(interval) => put(interval, line, bound, intervals),
+        None => Err(RangeFault::TooWide(line)),
+    }
+}
+
+/// Judges an expression.
+pub fn judge(
+    e: &Expr,
+    table: &NameTable<Range>,
+    bound: Bound,
+    intervals: &mut Items<Interval>,
+) -> Result<(), RangeFault>
+    ensures { Walks bound.value (expr_demands e.now (range_in table.now)) intervals.old result intervals.new }
+{
+    expr(e, table, bound, intervals)?;
+    Ok(())
 }
 
 /// Judges both sides of a condition.
@@ -63,12 +93,10 @@ pub fn condition(
     bound: Bound,
     intervals: &mut Items<Interval>,
 ) -> Result<(), RangeFault>
-    ensures first { IsJudged bound.value (condition_demands condition.now (range_in table.now)) result }
-    ensures intervals { OnOk result (intervals.new ≡ intervals.old ++ node_intervals (condition_demands condition.now (range_in table.now))) }
+    ensures { Walks bound.value (condition_demands condition.now (range_in table.now)) intervals.old result intervals.new }
 {
-    expr(&condition.left, table, bound, intervals)?;
-    expr(&condition.right, table, bound, intervals)?;
-    Ok(())
+    judge(&condition.left, table, bound, intervals)?;
+    judge(&condition.right, table, bound, intervals)
 }
 
 /// Judges the index of a place, where it has one.
@@ -78,15 +106,11 @@ pub fn place(
     bound: Bound,
     intervals: &mut Items<Interval>,
 ) -> Result<(), RangeFault>
-    ensures first { IsJudged bound.value (place_demands place.now (range_in table.now)) result }
-    ensures intervals { OnOk result (intervals.new ≡ intervals.old ++ node_intervals (place_demands place.now (range_in table.now))) }
+    ensures { Walks bound.value (place_demands place.now (range_in table.now)) intervals.old result intervals.new }
 {
     match place {
         Place::Name(_) => Ok(()),
-        Place::Element { index, .. } => {
-            expr(index, table, bound, intervals)?;
-            Ok(())
-        }
+        Place::Element { index, .. } => judge(index, table, bound, intervals),
     }
 }
 
@@ -97,11 +121,10 @@ pub fn exprs(
     bound: Bound,
     intervals: &mut Items<Interval>,
 ) -> Result<(), RangeFault>
-    ensures first { IsJudged bound.value (exprs_demands expressions.now (range_in table.now)) result }
-    ensures intervals { OnOk result (intervals.new ≡ intervals.old ++ node_intervals (exprs_demands expressions.now (range_in table.now))) }
+    ensures { Walks bound.value (exprs_demands expressions.now (range_in table.now)) intervals.old result intervals.new }
 {
     for e in expressions.as_slice() {
-        expr(e, table, bound, intervals)?;
+        judge(e, table, bound, intervals)?;
     }
     Ok(())
 }

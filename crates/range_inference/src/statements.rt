@@ -1,11 +1,10 @@
-ghost use Rattle.std.specs.Prelude.{◌≡◌, ◌++◌, OnOk};
-ghost use Rattle.range_inference.specs.Demands.{node_intervals, statement_demands, statements_demands};
-ghost use Rattle.range_inference.specs.Outcome.{IsJudged};
+ghost use Rattle.range_inference.specs.Demands.{statement_demands, statements_demands};
+ghost use Rattle.range_inference.specs.Outcome.{Walks};
 ghost use Rattle.range_inference.specs.Table.{range_in};
 
 use crate::bound::Bound;
 use crate::demand::require;
-use crate::expressions::{condition, expr, exprs, place};
+use crate::expressions::{condition, exprs, judge, place};
 use crate::fault::RangeFault;
 use crate::interval::Interval;
 use name_table::NameTable;
@@ -20,8 +19,7 @@ pub fn statements(
     bound: Bound,
     intervals: &mut Items<Interval>,
 ) -> Result<(), RangeFault>
-    ensures first { IsJudged bound.value (statements_demands list.now (range_in table.now)) result }
-    ensures intervals { OnOk result (intervals.new ≡ intervals.old ++ node_intervals (statements_demands list.now (range_in table.now))) }
+    ensures { Walks bound.value (statements_demands list.now (range_in table.now)) intervals.old result intervals.new }
 {
     for s in list.as_slice() {
         statement(s, table, bound, intervals)?;
@@ -37,8 +35,7 @@ fn statement(
     bound: Bound,
     intervals: &mut Items<Interval>,
 ) -> Result<(), RangeFault>
-    ensures first { IsJudged bound.value (statement_demands s.now (range_in table.now)) result }
-    ensures intervals { OnOk result (intervals.new ≡ intervals.old ++ node_intervals (statement_demands s.now (range_in table.now))) }
+    ensures { Walks bound.value (statement_demands s.now (range_in table.now)) intervals.old result intervals.new }
 {
     match s {
         Statement::Assign {
@@ -47,12 +44,10 @@ fn statement(
             ..
         } => {
             place(target, table, bound, intervals)?;
-            expr(value, table, bound, intervals)?;
+            judge(value, table, bound, intervals)
         }
-        Statement::Print { value, .. } => {
-            expr(value, table, bound, intervals)?;
-        }
-        Statement::Read { place: target, .. } => place(target, table, bound, intervals)?,
+        Statement::Print { value, .. } => judge(value, table, bound, intervals),
+        Statement::Read { place: target, .. } => place(target, table, bound, intervals),
         Statement::If {
             condition: test,
             first,
@@ -61,7 +56,7 @@ fn statement(
         } => {
             condition(test, table, bound, intervals)?;
             statements(first, table, bound, intervals)?;
-            statements(second, table, bound, intervals)?;
+            statements(second, table, bound, intervals)
         }
         Statement::For {
             first,
@@ -69,9 +64,9 @@ fn statement(
             body,
             ..
         } => {
-            expr(first, table, bound, intervals)?;
-            expr(last, table, bound, intervals)?;
-            statements(body, table, bound, intervals)?;
+            judge(first, table, bound, intervals)?;
+            judge(last, table, bound, intervals)?;
+            statements(body, table, bound, intervals)
         }
         Statement::While {
             condition: test,
@@ -81,9 +76,8 @@ fn statement(
         } => {
             condition(test, table, bound, intervals)?;
             require(Interval::one(*limit), *line, bound)?;
-            statements(body, table, bound, intervals)?;
+            statements(body, table, bound, intervals)
         }
-        Statement::Call { arguments, .. } => exprs(arguments, table, bound, intervals)?,
+        Statement::Call { arguments, .. } => exprs(arguments, table, bound, intervals),
     }
-    Ok(())
 }

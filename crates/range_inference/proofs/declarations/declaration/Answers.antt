@@ -1,20 +1,40 @@
-use Rattle.std.proofs.Common.{[], ◌∷◌, ◌++◌, map, refl, sym, ap, ◌∙◌, subst}
+use Rattle.std.proofs.Common.{[], ◌∷◌, ◌++◌, map, refl, sym, subst}
 use Rattle.source_tree.specs.Scope.{variable, array, procedure, with_declared}
 use Rattle.source_tree.specs.declared.declaration.Declaration.{Declaration}
-use Rattle.range_inference.specs.Demands.{declaration_demands, procedure_demands, wide_lines, node_intervals}
-use Rattle.range_inference.specs.Outcome.{IsJudged}
+use Rattle.range_inference.specs.Demands.{declared, declaration_demands, procedure_demands}
+use Rattle.range_inference.specs.Outcome.{IsPassed, Walks}
 use Rattle.range_inference.specs.Table.{HasRanges}
-use Rattle.range_inference.proofs.Judging.{told, on_ok_more}
+use Rattle.range_inference.proofs.Judging.{reports, walks_without, on_ok_more}
 use Rattle.range_inference.proofs.TableLemmas.{has_more}
 use Rattle.range_inference.proofs.declarations.declaration.Goals as goal
 
-pub returns-in_err-procedure-in-Proc-clause-first : goal.returns-in_err-procedure-in-Proc-clause-first
-returns-in_err-procedure-in-Proc-clause-first c =
+pub returns-in-Var-clause-walk : goal.returns-in-Var-clause-walk
+returns-in-Var-clause-walk c =
+    λ k scope h.
+    let v = c.in-Var in
+    subst (λ (d : Declaration). Walks c.args.bound.value (declaration_demands k d scope) c.args.intervals.now c.variable.result c.args.intervals.now) (sym v.is)
+    (walks_without c.args.bound.value (declared v.range v.line ∷ []) c.args.intervals.now c.variable.result refl c.variable.ensures.first)
+
+pub returns-in-Array-clause-walk : goal.returns-in-Array-clause-walk
+returns-in-Array-clause-walk c =
+    λ k scope h.
+    let a = c.in-Array in
+    subst (λ (d : Declaration). Walks c.args.bound.value (declaration_demands k d scope) c.args.intervals.now c.variable-in-Array.result c.args.intervals.now) (sym a.is)
+    (walks_without c.args.bound.value (declared a.range a.line ∷ []) c.args.intervals.now c.variable-in-Array.result refl c.variable-in-Array.ensures.first)
+
+pub returns-in_err-procedure-in-Proc-clause-walk : goal.returns-in_err-procedure-in-Proc-clause-walk
+returns-in_err-procedure-in-Proc-clause-walk c =
     λ k scope h.
     let p = c.in-Proc in
-    subst (λ (d : Declaration). IsJudged c.args.bound.value (declaration_demands k d scope) c.from_residual.result) (sym p.is)
-    (told c.args.bound.value (procedure_demands k p.own p.inner p.body scope) c.in_err-procedure-in-Proc.field-0.0 c.from_residual.result
-    (c.in_err-procedure-in-Proc.ensures.first k scope h) c.from_residual.ensures.1)
+    subst (λ (d : Declaration). Walks c.args.bound.value (declaration_demands k d scope) c.args.intervals.now c.from_residual.result c.procedure.new.intervals) (sym p.is)
+    (reports c.args.bound.value (procedure_demands k p.own p.inner p.body scope) c.args.intervals.now c.procedure.new.intervals c.in_err-procedure-in-Proc.field-0.0 c.from_residual.result
+    c.from_residual.ensures.1 (c.in_err-procedure-in-Proc.ensures.walk k scope h))
+
+pub returns-in_ok-declare-in-Proc-clause-walk : goal.returns-in_ok-declare-in-Proc-clause-walk
+returns-in_ok-declare-in-Proc-clause-walk c =
+    λ k scope h.
+    subst (λ (d : Declaration). IsPassed c.args.bound.value (declaration_demands k d scope) c.args.intervals.now c.procedure.new.intervals) (sym c.in-Proc.is)
+    (c.in_ok-procedure-in-Proc.ensures.walk k scope h)
 
 pub returns-in-Var-clause-ranges : goal.returns-in-Var-clause-ranges
 returns-in-Var-clause-ranges c =
@@ -40,14 +60,3 @@ returns-in_ok-declare-in-Proc-clause-ranges c =
     has_more c.procedure.new.table c.declare.new.self scope bytes d before c.in_ok-declare-in-Proc.ensures in
     subst (λ (e : Declaration). HasRanges c.declare.new.self (with_declared k e scope)) (sym c.in-Proc.is)
     (subst (λ n. HasRanges c.declare.new.self (scope ++ (n, d) ∷ [])) c.as_slice.ensures named)
-
-pub returns-in_ok-declare-in-Proc-clause-first : goal.returns-in_ok-declare-in-Proc-clause-first
-returns-in_ok-declare-in-Proc-clause-first c =
-    λ k scope h.
-    ap (λ (d : Declaration). wide_lines c.args.bound.value (declaration_demands k d scope)) c.in-Proc.is ∙ c.in_ok-procedure-in-Proc.ensures.first k scope h
-
-pub returns-in_ok-declare-in-Proc-clause-intervals : goal.returns-in_ok-declare-in-Proc-clause-intervals
-returns-in_ok-declare-in-Proc-clause-intervals c =
-    λ k scope h.
-    c.in_ok-procedure-in-Proc.ensures.intervals k scope h
-    ∙ ap (λ (d : Declaration). c.args.intervals.now ++ node_intervals (declaration_demands k d scope)) (sym c.in-Proc.is)

@@ -2,10 +2,10 @@ use Rattle.std.proofs.Common.{◌∷◌, [], take, ap, ◌∙◌, subst, sym, ar
 use Rattle.std.proofs.lemmas.List.{take_all}
 use Rattle.source_tree.specs.Scope.{with_variables}
 use Rattle.range_inference.specs.Demands.{declared, variables_demands, wide_lines}
-use Rattle.range_inference.specs.Outcome.{IsFirst, IsJudged}
+use Rattle.range_inference.specs.Outcome.{IsFirst}
 use Rattle.range_inference.specs.Table.{HasRanges}
 use Rattle.range_inference.proofs.DeclarationLists.{variables_mirror}
-use Rattle.range_inference.proofs.Judging.{taken, member_fails, member_none, all_none}
+use Rattle.range_inference.proofs.Judging.{taken, told, member_stops, member_none, all_none}
 use Rattle.name_table.specs.Entries.{Extends}
 use Rattle.name_table.proofs.MirrorLemmas.{extends_with_new, extends_then}
 use Rattle.range_inference.proofs.declarations.declare_all.Goals as goal
@@ -16,10 +16,11 @@ returns-in_err-variable-clause-first g c =
     let range = g.V.Variable.range_of in
     let b = c.args.bound.value in
     let fault = c.in_err-variable.field-0.0 in
-    subst (λ xs. IsJudged b (variables_demands name range xs) c.from_residual.result) c.as_slice-v-items.ensures
-    (member_fails b (λ x. declared (range x) (name x).line ∷ []) c.as_slice-v-items.result.now c.v-item.result c.loop-v.v-index fault c.from_residual.result
-    c.loop-v-test.true c.v-item.is c.loop-v.invariant.none
-    (subst (λ d. IsFirst (wide_lines b (d ∷ [])) fault) (λ j. declared (c.range.ensures j) (c.name-name.ensures j).line) c.in_err-variable.ensures.first) c.from_residual.ensures.1)
+    told b (variables_demands name range c.args.list.now) fault c.from_residual.result
+    (subst (λ xs. IsFirst (wide_lines b (variables_demands name range xs)) fault) c.as_slice-v-items.ensures
+    (member_stops b (λ x. declared (range x) (name x).line ∷ []) c.as_slice-v-items.result.now c.v-item.result c.loop-v.v-index fault c.loop-v-test.true c.v-item.is c.loop-v.invariant.none
+    (subst (λ d. IsFirst (wide_lines b (d ∷ [])) fault) (λ j. declared (c.range.ensures j) (c.name-name.ensures j).line) c.in_err-variable.ensures.first)))
+    c.from_residual.ensures.1
 
 pub loop-v-preserved : goal.loop-v-preserved
 loop-v-preserved g c =
