@@ -1,5 +1,5 @@
 mod ExpressionLemmas
-mod FoldEquations
+pub mod FoldEquations
 mod RestLemmas
 mod RowsCalls
 mod RowsDeclarations

@@ -1,6 +1,5 @@
 pub mod Corners
 pub mod DeclarationLists
-pub mod Equations
 pub mod Judging
 pub mod NodeDemands
 pub mod OperatorLemmas

@@ -13,9 +13,9 @@ use Rattle.source_tree.specs.declared.expression.Expr.TheOpen as expr
 use Rattle.source_tree.specs.declared.statement.Place.TheVariants.{Element as AtElement}
 use Rattle.source_tree.specs.declared.statement.Statement.{Assign, Print, While}
 use Rattle.range_inference.specs.Bound.{bound_of}
-use Rattle.range_inference.specs.Demands.{Demand, node, limit, Judged, judged_node, judged, expr_demands, statement_demands, demands_of, wide_lines, too_wide, intervals_in}
+use Rattle.range_inference.specs.Demands.{Demand, node, limit, Judged, judged_node, judged, expr_demands, statement_demands, demands_of, wide_lines, too_wide, intervals_in, demands_of_node}
 use Rattle.range_inference.specs.Interval.{Ranges, from_to}
-use Rattle.range_inference.proofs.Equations.{judged-Number, judged-Name, judged-Element, judged-Binary, demands-Assign, demands-Print, demands-While}
+use Rattle.name_check.proofs.FoldEquations.{fold-Number, fold-Name, fold-Element, fold-Binary, fold-Assign, fold-Print, fold-While}
 
 abbrev x : ℕ → SourceName
 x line = record { bytes = 120 ∷ []; line = line }
@@ -42,15 +42,15 @@ sum_after left right = (judged_node (expr.Binary left Add right 2)).demands empt
 
 -- what a number demands
 number_demands : (value : ℤ) (line : ℕ) → expr_demands (Number value line) empty_scope ≡ node (from_to value value) line ∷ []
-number_demands value line = ap (λ j. j.demands empty_scope) (judged-Number value line)
+number_demands value line = ap (λ j. j.demands empty_scope) (fold-Number judged_node value line)
 
 sum_demands : demands_of sum_of_two
     ≡ node (from_to (pos 49) (pos 49)) 2 ∷ (node (from_to (pos 49) (pos 49)) 3 ∷ (node (from_to (pos 98) (pos 98)) 2 ∷ []))
 sum_demands =
-    ap (λ f. f empty_scope ++ []) (demands-Print (Binary (Number (pos 49) 2) Add (Number (pos 49) 3) 2) 1)
-    ∙ ap (λ j. j.demands empty_scope ++ []) (judged-Binary (Number (pos 49) 2) Add (Number (pos 49) 3) 2)
-    ∙ ap (λ j. sum_after j (judged (Number (pos 49) 3))) (judged-Number (pos 49) 2)
-    ∙ ap (λ j. sum_after (judged_node (expr.Number (pos 49) 2)) j) (judged-Number (pos 49) 3)
+    ap (λ f. f empty_scope ++ []) (fold-Print demands_of_node (Binary (Number (pos 49) 2) Add (Number (pos 49) 3) 2) 1)
+    ∙ ap (λ j. j.demands empty_scope ++ []) (fold-Binary judged_node (Number (pos 49) 2) Add (Number (pos 49) 3) 2)
+    ∙ ap (λ j. sum_after j (judged (Number (pos 49) 3))) (fold-Number judged_node (pos 49) 2)
+    ∙ ap (λ j. sum_after (judged_node (expr.Number (pos 49) 2)) j) (fold-Number judged_node (pos 49) 3)
 
 pub sum_on_pocket : too_wide (bound_of Pocket) sum_of_two ≡ 2 ∷ []
 sum_on_pocket = ap (wide_lines (bound_of Pocket)) sum_demands
@@ -68,7 +68,7 @@ square_less_twenty = record {
 
 pub square_intervals : intervals_in square_less_twenty
     ≡ from_to (pos 0) (pos 9) ∷ (from_to (pos 0) (pos 9) ∷ (from_to (pos 0) (pos 81) ∷ (from_to (pos 20) (pos 20) ∷ (from_to (neg_ℤ (pos 20)) (pos 61) ∷ []))))
-square_intervals = rw demands-Print (rw judged-Binary (rw judged-Binary (rw judged-Name (rw judged-Number refl))))
+square_intervals = rw (fold-Print demands_of_node) (rw (fold-Binary judged_node) (rw (fold-Binary judged_node) (rw (fold-Name judged_node) (rw (fold-Number judged_node) refl))))
 
 -- array a[1000]: 5..7;
 -- print a[0];
@@ -80,11 +80,11 @@ element = record {
 
 -- the index stands before its element
 pub element_intervals : intervals_in element ≡ from_to (pos 0) (pos 0) ∷ (from_to (pos 5) (pos 7) ∷ [])
-element_intervals = rw demands-Print (rw judged-Element (rw judged-Number refl))
+element_intervals = rw (fold-Print demands_of_node) (rw (fold-Element judged_node) (rw (fold-Number judged_node) refl))
 
 -- an array's length may be as it likes
 pub length_not_judged : too_wide (bound_of Pocket) element ≡ []
-length_not_judged = rw demands-Print (rw judged-Element (rw judged-Number refl))
+length_not_judged = rw (fold-Print demands_of_node) (rw (fold-Element judged_node) (rw (fold-Number judged_node) refl))
 
 -- var x: 0..98;
 abbrev wide_variable : Program
@@ -105,7 +105,7 @@ index_and_value = record {
 
 -- the index is judged before the value, as in the text
 pub index_first : too_wide (bound_of Pocket) index_and_value ≡ 3 ∷ (4 ∷ [])
-index_first = rw demands-Assign (rw (judged-Number (pos 98) 3) (rw (judged-Number (pos 99) 4) refl))
+index_first = rw (fold-Assign demands_of_node) (rw (fold-Number judged_node (pos 98) 3) (rw (fold-Number judged_node (pos 99) 4) refl))
 
 -- while 0 <
 -- 98 limit
@@ -125,11 +125,11 @@ limited_demands : demands_of limited
 limited_demands =
     let body = statement_demands (Print (Number (pos 100) 3) 3) empty_scope in
     ap (λ f. f empty_scope ++ [])
-    (demands-While (record { left = Number (pos 0) 1; comparison = Less; right = Number (pos 98) 2; line = 1 }) (pos 99) (Print (Number (pos 100) 3) 3 ∷ []) 1)
+    (fold-While demands_of_node (record { left = Number (pos 0) 1; comparison = Less; right = Number (pos 98) 2; line = 1 }) (pos 99) (Print (Number (pos 100) 3) 3 ∷ []) 1)
     ∙ ap (λ l. limited_after l (expr_demands (Number (pos 98) 2) empty_scope) body) (number_demands (pos 0) 1)
     ∙ ap (λ l. limited_after (node (from_to (pos 0) (pos 0)) 1 ∷ []) l body) (number_demands (pos 98) 2)
     ∙ ap (limited_after (node (from_to (pos 0) (pos 0)) 1 ∷ []) (node (from_to (pos 98) (pos 98)) 2 ∷ []))
-    (ap (λ f. f empty_scope) (demands-Print (Number (pos 100) 3) 3) ∙ number_demands (pos 100) 3)
+    (ap (λ f. f empty_scope) (fold-Print demands_of_node (Number (pos 100) 3) 3) ∙ number_demands (pos 100) 3)
 
 -- condition, limit, list
 pub limit_between : too_wide (bound_of Pocket) limited ≡ 2 ∷ (1 ∷ (3 ∷ []))

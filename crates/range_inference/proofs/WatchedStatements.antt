@@ -26,10 +26,10 @@ use Rattle.range_inference.specs.Demands.{Demand, expr_demands, exprs_demands, c
 use Rattle.range_inference.specs.Interval.{Ranges, interval_of}
 use Rattle.range_inference.specs.Watched.{watched_evaluation}
 use Rattle.range_inference.specs.declared.interval.Interval.{Interval}
-use Rattle.range_inference.proofs.Equations.{demands-Assign, demands-Print, demands-Read, demands-If, demands-For, demands-While, demands-Call, faults-Assign, faults-Print, faults-Read, faults-If, faults-For, faults-While, faults-Call}
 use Rattle.range_inference.proofs.Passing.{AllPass, pass_first, pass_second}
 use Rattle.range_inference.proofs.SameRuns.{Both, both_happens, both_then, both_if, not_empty, first_empty, second_empty}
 use Rattle.range_inference.proofs.WatchedExpressions.{Tied, LiesAndFits, value_holds}
+use Rattle.name_check.proofs.FoldEquations.{fold-Assign, fold-Print, fold-Read, fold-If, fold-For, fold-While, fold-Call}
 
 module _ (declared : List Declared) (test : Interval → ℤ → Bool) (elsewhere : Run ℤ) where
   abbrev pub watching : Expr → Evaluation
@@ -236,17 +236,17 @@ module _ (declared : List Declared) (test : Interval → ℤ → Bool) (elsewher
   pub every_statement : (s : Statement) → KeepsStatement s
   every_statement =
       each_statement KeepsStatement
-      (λ to e line. at (Assign to e line) _ _ _ _ (execution-Assign watching to e line) (execution-Assign evaluation to e line) (faults-Assign to e line) (demands-Assign to e line) (assign_keeps to e line))
-      (λ e line. at (Print e line) _ _ _ _ (execution-Print watching e line) (execution-Print evaluation e line) (faults-Print e line) (demands-Print e line) (print_keeps e line))
-      (λ to line. at (Read to line) _ _ _ _ (execution-Read watching to line) (execution-Read evaluation to line) (faults-Read to line) (demands-Read to line)
+      (λ to e line. at (Assign to e line) _ _ _ _ (execution-Assign watching to e line) (execution-Assign evaluation to e line) (fold-Assign faults_of_node to e line) (fold-Assign demands_of_node to e line) (assign_keeps to e line))
+      (λ e line. at (Print e line) _ _ _ _ (execution-Print watching e line) (execution-Print evaluation e line) (fold-Print faults_of_node e line) (fold-Print demands_of_node e line) (print_keeps e line))
+      (λ to line. at (Read to line) _ _ _ _ (execution-Read watching to line) (execution-Read evaluation to line) (fold-Read faults_of_node to line) (fold-Read demands_of_node to line)
       (λ scope calls' calls state loops tied none passes fits. both_happens visit _ _ Stands (read_keeps scope calls' calls tied to line state.input state loops none passes fits)))
-      (λ condition first second line ka kb. at (If condition first second line) _ _ _ _ (execution-If watching condition first second line) (execution-If evaluation condition first second line) (faults-If condition first second line) (demands-If condition first second line)
+      (λ condition first second line ka kb. at (If condition first second line) _ _ _ _ (execution-If watching condition first second line) (execution-If evaluation condition first second line) (fold-If faults_of_node condition first second line) (fold-If demands_of_node condition first second line)
       (if_keeps condition first second line ka kb))
-      (λ name first last body line kb. at (For name first last body line) _ _ _ _ (execution-For watching name first last body line) (execution-For evaluation name first last body line) (faults-For name first last body line) (demands-For name first last body line)
+      (λ name first last body line kb. at (For name first last body line) _ _ _ _ (execution-For watching name first last body line) (execution-For evaluation name first last body line) (fold-For faults_of_node name first last body line) (fold-For demands_of_node name first last body line)
       (loop_keeps name first last body line kb))
-      (λ condition turns body line kb. at (While condition turns body line) _ _ _ _ (execution-While watching condition turns body line) (execution-While evaluation condition turns body line) (faults-While condition turns body line) (demands-While condition turns body line)
+      (λ condition turns body line kb. at (While condition turns body line) _ _ _ _ (execution-While watching condition turns body line) (execution-While evaluation condition turns body line) (fold-While faults_of_node condition turns body line) (fold-While demands_of_node condition turns body line)
       (repeat_keeps condition turns body line kb))
-      (λ name es line. at (Call name es line) _ _ _ _ (execution-Call watching name es line) (execution-Call evaluation name es line) (faults-Call name es line) (demands-Call name es line)
+      (λ name es line. at (Call name es line) _ _ _ _ (execution-Call watching name es line) (execution-Call evaluation name es line) (fold-Call faults_of_node name es line) (fold-Call demands_of_node name es line)
       (λ scope calls' calls state loops tied none passes fits.
       let o = lookup name.bytes scope in
       both_happens visit _ _ Stands (call_keeps scope calls' calls tied o es name.line line state (tied.names name.bytes)

@@ -24,13 +24,13 @@ use Rattle.source_tree.specs.declared.statement.Place.TheVariants as place
 use Rattle.source_tree.specs.declared.statement.Statement.{Statement}
 use Rattle.source_tree.specs.declared.statement.Statement as statement
 use Rattle.source_tree.proofs.RowsBasis.{from_to, named}
-use Rattle.resolved_tree.specs.Resolution.{slot_at, resolved_expr, resolved_call, resolved_of}
+use Rattle.resolved_tree.specs.Resolution.{slot_at, resolved_expr, resolved_call, resolved_of, resolved_expr_node, resolved_node}
 use Rattle.resolved_tree.specs.declared.slot.Slot.TheVariants as slot
 use Rattle.resolved_tree.specs.declared.tree.Procedure.{Procedure}
 use Rattle.resolved_tree.specs.declared.tree.Step.{Step, Assign, Call, Skip}
 use Rattle.resolved_tree.specs.declared.tree.Target.TheVariants as target
 use Rattle.resolved_tree.specs.declared.tree.Value.{Value, Number, Integer, Element, Binary}
-use Rattle.resolved_tree.proofs.Equations.{resolved-Number, resolved-Name, resolved-Element, resolved-Binary, resolved-Assign, resolved-Call}
+use Rattle.name_check.proofs.FoldEquations.{fold-Number, fold-Name, fold-Element, fold-Binary, fold-Assign, fold-Call}
 
 abbrev x : ℕ → Name
 x line = named (120 ∷ []) line
@@ -99,10 +99,10 @@ sum_with v = Assign (target.Integer (slot.Variable 0 digits)) v 5
 pub numbers_in_a_body : (resolved_of program).procedures
     ≡ procedure_with (sum_with (Binary (Integer (slot.Variable 3 few)) Add (Integer (slot.Variable 4 upper)) 5))
 numbers_in_a_body =
-    ap (λ (s : Scope → Step). procedure_with (s within)) (resolved-Assign (place.Name (x 5)) (source.Binary (source.Name (a 5)) Add (source.Name (b 5)) 5) 5)
-    ∙ ap (λ (v : Scope → Value). procedure_with (sum_with (v within))) (resolved-Binary (source.Name (a 5)) Add (source.Name (b 5)) 5)
-    ∙ ap (λ (v : Scope → Value). procedure_with (sum_with (Binary (v within) Add (resolved_expr (source.Name (b 5)) within) 5))) (resolved-Name (a 5))
-    ∙ ap (λ (v : Scope → Value). procedure_with (sum_with (Binary (Integer (slot.Variable 3 few)) Add (v within) 5))) (resolved-Name (b 5))
+    ap (λ (s : Scope → Step). procedure_with (s within)) (fold-Assign resolved_node (place.Name (x 5)) (source.Binary (source.Name (a 5)) Add (source.Name (b 5)) 5) 5)
+    ∙ ap (λ (v : Scope → Value). procedure_with (sum_with (v within))) (fold-Binary resolved_expr_node (source.Name (a 5)) Add (source.Name (b 5)) 5)
+    ∙ ap (λ (v : Scope → Value). procedure_with (sum_with (Binary (v within) Add (resolved_expr (source.Name (b 5)) within) 5))) (fold-Name resolved_expr_node (a 5))
+    ∙ ap (λ (v : Scope → Value). procedure_with (sum_with (Binary (Integer (slot.Variable 3 few)) Add (v within) 5))) (fold-Name resolved_expr_node (b 5))
 
 abbrev call_with : Value → List Step
 call_with v = Call 2 (record { value = v; range = few } ∷ []) 7 ∷ []
@@ -110,9 +110,9 @@ call_with v = Call 2 (record { value = v; range = few } ∷ []) 7 ∷ []
 -- an argument has the range of its parameter, and one without a parameter is left out
 pub one_argument_for_one_parameter : (resolved_of program).steps ≡ call_with (Element (slot.Array 1 (pos 3) few) (Number (pos 2)) 7)
 one_argument_for_one_parameter =
-    ap (λ (s : Scope → Step). s whole ∷ []) (resolved-Call (p 7) (source.Element (t 7) (source.Number (pos 2) 7) ∷ (source.Name (x 7) ∷ [])) 7)
-    ∙ ap (λ (v : Scope → Value). call_with (v whole)) (resolved-Element (t 7) (source.Number (pos 2) 7))
-    ∙ ap (λ (v : Scope → Value). call_with (Element (slot.Array 1 (pos 3) few) (v whole) 7)) (resolved-Number (pos 2) 7)
+    ap (λ (s : Scope → Step). s whole ∷ []) (fold-Call resolved_node (p 7) (source.Element (t 7) (source.Number (pos 2) 7) ∷ (source.Name (x 7) ∷ [])) 7)
+    ∙ ap (λ (v : Scope → Value). call_with (v whole)) (fold-Element resolved_expr_node (t 7) (source.Number (pos 2) 7))
+    ∙ ap (λ (v : Scope → Value). call_with (Element (slot.Array 1 (pos 3) few) (v whole) 7)) (fold-Number resolved_expr_node (pos 2) 7)
 
 -- ---- names that aren't what they are used for
 -- p isn't visible in its own body, and a call of x does nothing

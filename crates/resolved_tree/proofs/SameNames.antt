@@ -13,14 +13,15 @@ use Rattle.source_tree.specs.declared.statement.Place.{Place}
 use Rattle.source_tree.specs.declared.statement.Place.TheVariants as place
 use Rattle.source_tree.specs.declared.statement.Statement.{Statement, Assign, Print, Read, If, For, While, Call}
 use Rattle.source_tree.proofs.Inductions.{EachOf, each_of, each_expr, each_statement}
-use Rattle.resolved_tree.specs.Resolution.{resolved_expr, resolved_condition, resolved_place, resolved_arguments, resolved_call, all_resolved, resolved_statement, resolved_statements}
+use Rattle.resolved_tree.specs.Resolution.{resolved_expr, resolved_condition, resolved_place, resolved_arguments, resolved_call, all_resolved, resolved_statement, resolved_statements, resolved_expr_node, resolved_node}
 use Rattle.resolved_tree.specs.Slots.{slot_of}
 use Rattle.resolved_tree.specs.declared.tree.Step.{Step}
 use Rattle.resolved_tree.specs.declared.tree.Step as step
 use Rattle.resolved_tree.specs.declared.tree.Target.TheVariants as target
 use Rattle.resolved_tree.specs.declared.tree.Value.{Value}
 use Rattle.resolved_tree.specs.declared.tree.Value as value
-use Rattle.resolved_tree.proofs.Equations.{all_resolved-map, resolved-Number, resolved-Name, resolved-Element, resolved-Neg, resolved-Binary, resolved-Assign, resolved-Print, resolved-Read, resolved-If, resolved-For, resolved-While, resolved-Call}
+use Rattle.resolved_tree.proofs.Equations.{all_resolved-map}
+use Rattle.name_check.proofs.FoldEquations.{fold-Number, fold-Name, fold-Element, fold-Neg, fold-Binary, fold-Assign, fold-Print, fold-Read, fold-If, fold-For, fold-While, fold-Call}
 
 abbrev pub SameNames : Scope → Scope → Type 0
 SameNames a b = (x : List ℕ) → lookup x a ≡ lookup x b
@@ -50,11 +51,11 @@ module _ (a b : Scope) (same : SameNames a b) where
   expr_same : (e : Expr) → ExprSame e
   expr_same =
       each_expr ExprSame
-      (λ n line. by_node (Number n line) _ (resolved-Number n line) refl)
-      (λ name. by_node (Name name) _ (resolved-Name name) (ap (λ o. value.Integer (slot_of o)) (same name.bytes)))
-      (λ name index h. by_node (Element name index) _ (resolved-Element name index) (λ j. value.Element (slot_of (same name.bytes j)) (h j) name.line))
-      (λ operand line h. by_node (Neg operand line) _ (resolved-Neg operand line) (ap (λ v. value.Neg v) h))
-      (λ left o right line h k. by_node (Binary left o right line) _ (resolved-Binary left o right line) (λ j. value.Binary (h j) o (k j) line))
+      (λ n line. by_node (Number n line) _ (fold-Number resolved_expr_node n line) refl)
+      (λ name. by_node (Name name) _ (fold-Name resolved_expr_node name) (ap (λ o. value.Integer (slot_of o)) (same name.bytes)))
+      (λ name index h. by_node (Element name index) _ (fold-Element resolved_expr_node name index) (λ j. value.Element (slot_of (same name.bytes j)) (h j) name.line))
+      (λ operand line h. by_node (Neg operand line) _ (fold-Neg resolved_expr_node operand line) (ap (λ v. value.Neg v) h))
+      (λ left o right line h k. by_node (Binary left o right line) _ (fold-Binary resolved_expr_node left o right line) (λ j. value.Binary (h j) o (k j) line))
 
   condition_same : (condition : Condition) → resolved_condition condition a ≡ resolved_condition condition b
   condition_same condition =
@@ -92,16 +93,16 @@ module _ (a b : Scope) (same : SameNames a b) where
   statement_same : (s : Statement) → StatementSame s
   statement_same =
       each_statement StatementSame
-      (λ to e line. by_statement (Assign to e line) _ (resolved-Assign to e line) (λ j. step.Assign (place_same to j) (expr_same e j) line))
-      (λ e line. by_statement (Print e line) _ (resolved-Print e line) (ap (λ v. step.Print v) (expr_same e)))
-      (λ to line. by_statement (Read to line) _ (resolved-Read to line) (ap (λ t. step.Read t line) (place_same to)))
-      (λ condition first second line h k. by_statement (If condition first second line) _ (resolved-If condition first second line)
+      (λ to e line. by_statement (Assign to e line) _ (fold-Assign resolved_node to e line) (λ j. step.Assign (place_same to j) (expr_same e j) line))
+      (λ e line. by_statement (Print e line) _ (fold-Print resolved_node e line) (ap (λ v. step.Print v) (expr_same e)))
+      (λ to line. by_statement (Read to line) _ (fold-Read resolved_node to line) (ap (λ t. step.Read t line) (place_same to)))
+      (λ condition first second line h k. by_statement (If condition first second line) _ (fold-If resolved_node condition first second line)
       (λ j. step.If (condition_same condition j) (inner_same first h j) (inner_same second k j)))
-      (λ name first last body line h. by_statement (For name first last body line) _ (resolved-For name first last body line)
+      (λ name first last body line h. by_statement (For name first last body line) _ (fold-For resolved_node name first last body line)
       (λ j. step.For (slot_of (same name.bytes j)) (expr_same first j) (expr_same last j) (inner_same body h j) line))
-      (λ condition limit body line h. by_statement (While condition limit body line) _ (resolved-While condition limit body line)
+      (λ condition limit body line h. by_statement (While condition limit body line) _ (fold-While resolved_node condition limit body line)
       (λ j. step.While (condition_same condition j) limit (inner_same body h j) line))
-      (λ name es line. by_statement (Call name es line) _ (resolved-Call name es line)
+      (λ name es line. by_statement (Call name es line) _ (fold-Call resolved_node name es line)
       (ap (λ o. resolved_call o es line a) (same name.bytes) ∙ call_same (lookup name.bytes b) es line))
 
   pub statements_same : (l : List Statement) → resolved_statements l a ≡ resolved_statements l b

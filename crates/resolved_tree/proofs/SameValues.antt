@@ -13,14 +13,14 @@ use Rattle.source_tree.specs.declared.expression.Condition.{Condition}
 use Rattle.source_tree.specs.declared.expression.Expr.{Expr, Number, Name, Element, Neg, Binary}
 use Rattle.source_tree.proofs.RunLaws.{and_then_assoc}
 use Rattle.source_tree.proofs.Inductions.{each_expr}
-use Rattle.range_inference.specs.Watched.{Watched, watched, watched_evaluation}
+use Rattle.range_inference.specs.Watched.{Watched, watched, watched_evaluation, watched_node}
 use Rattle.range_inference.specs.declared.interval.Interval.{Interval}
-use Rattle.range_inference.proofs.Equations.{watched-Number, watched-Name, watched-Element, watched-Neg, watched-Binary}
 use Rattle.resolved_tree.specs.Meaning.{elsewhere, kept, value_of, tested}
-use Rattle.resolved_tree.specs.Resolution.{resolved_expr, resolved_condition, slot_at}
+use Rattle.resolved_tree.specs.Resolution.{resolved_expr, resolved_condition, slot_at, resolved_expr_node}
 use Rattle.resolved_tree.specs.Slots.{slot_of, declared_of, is_word}
 use Rattle.resolved_tree.specs.declared.tree.Value.{Value}
-use Rattle.resolved_tree.proofs.Equations.{resolved-Number, resolved-Name, resolved-Element, resolved-Neg, resolved-Binary, value-Number, value-Integer, value-Element, value-Neg, value-Binary}
+use Rattle.resolved_tree.proofs.Equations.{value-Number, value-Integer, value-Element, value-Neg, value-Binary}
+use Rattle.name_check.proofs.FoldEquations.{fold-Number, fold-Name, fold-Element, fold-Neg, fold-Binary}
 
 -- ---- what a name stands for, and its slot
 integer_same : (o : Option Declared) (state : State) → integer_of (declared_of (slot_of o)) state ≡ integer_of o state
@@ -69,19 +69,19 @@ join e resolved w is is_worded same scope calls state =
 
 number_same : (n : ℤ) (line : ℕ) → SameValue (Number n line)
 number_same n line =
-    join (Number n line) _ _ (resolved-Number n line) (watched-Number tests_word elsewhere n line)
+    join (Number n line) _ _ (fold-Number resolved_expr_node n line) (fold-Number (watched_node tests_word elsewhere) n line)
     (λ scope calls state. ap (λ v. v state) (value-Number n))
 
 name_same : (name : SourceName) → SameValue (Name name)
 name_same name =
-    join (Name name) _ _ (resolved-Name name) (watched-Name tests_word elsewhere name)
+    join (Name name) _ _ (fold-Name resolved_expr_node name) (fold-Name (watched_node tests_word elsewhere) name)
     (λ scope calls state.
     ap (λ v. v state) (value-Integer (slot_at name scope))
     ∙ ap (λ x. happens visit (kept x state)) (integer_same (lookup name.bytes scope) state))
 
 element_is_same : (name : SourceName) (index : Expr) → SameValue index → SameValue (Element name index)
 element_is_same name index same =
-    join (Element name index) _ _ (resolved-Element name index) (watched-Element tests_word elsewhere name index)
+    join (Element name index) _ _ (fold-Element resolved_expr_node name index) (fold-Element (watched_node tests_word elsewhere) name index)
     (λ scope calls state.
     let o = lookup name.bytes scope in
     let run = watching index scope calls state in
@@ -92,7 +92,7 @@ element_is_same name index same =
 
 neg_same : (operand : Expr) (line : ℕ) → SameValue operand → SameValue (Neg operand line)
 neg_same operand line same =
-    join (Neg operand line) _ _ (resolved-Neg operand line) (watched-Neg tests_word elsewhere operand line)
+    join (Neg operand line) _ _ (fold-Neg resolved_expr_node operand line) (fold-Neg (watched_node tests_word elsewhere) operand line)
     (λ scope calls state.
     ap (λ v. v state) (value-Neg (resolved_expr operand scope))
     ∙ ap (λ (r : Run ℤ). happens visit (and_then r (λ x. kept (neg_ℤ x)))) (same scope calls state)
@@ -100,7 +100,7 @@ neg_same operand line same =
 
 binary_same : (left : Expr) (o : Operator) (right : Expr) (line : ℕ) → SameValue left → SameValue right → SameValue (Binary left o right line)
 binary_same left o right line first second =
-    join (Binary left o right line) _ _ (resolved-Binary left o right line) (watched-Binary tests_word elsewhere left o right line)
+    join (Binary left o right line) _ _ (fold-Binary resolved_expr_node left o right line) (fold-Binary (watched_node tests_word elsewhere) left o right line)
     (λ scope calls state.
     let run = watching left scope calls state in
     ap (λ v. v state) (value-Binary (resolved_expr left scope) o (resolved_expr right scope) line)
