@@ -1,7 +1,8 @@
 use crate::programs::parsed;
 use moduli_sets::SetName;
 use name_check::check_names;
-use range_inference::{Interval, RangeFault, infer};
+use range_inference::{Interval, RangeFault, Ranged, infer};
+use std::alloc::Global;
 use std::test::Fail;
 
 /// Nodes of expressions in a procedure and outside; the interval of `40 * n` is too wide for `pocket` alone.
@@ -17,18 +18,21 @@ fn from_to(low: i128, high: i128) -> Interval {
     Interval { low, high }
 }
 
+/// The intervals of JOB on a set, or its fault. None where JOB is no program or breaks a rule of names.
+fn inferred(alloc: Global, set: SetName) -> Result<Option<Result<Ranged, RangeFault>>, Fail> {
+    let Ok(program) = parsed(alloc, JOB)? else {
+        return Ok(None);
+    };
+    let Ok(checked) = check_names(alloc, program) else {
+        return Ok(None);
+    };
+    Ok(Some(infer(alloc, checked, set)))
+}
+
 #[test]
 fn nodes_have_intervals(rt: HostRuntime) -> Result<(), Fail> {
-    let Ok(program) = parsed(rt.alloc(), JOB)? else {
-        assert!(rt; false);
-        return Ok(());
-    };
-    let Ok(checked) = check_names(rt.alloc(), program) else {
-        assert!(rt; false);
-        return Ok(());
-    };
-    match infer(rt.alloc(), checked, SetName::Hall) {
-        Ok(ranged) => {
+    match inferred(rt.alloc(), SetName::Hall)? {
+        Some(Ok(ranged)) => {
             let wanted = [
                 from_to(40, 40),
                 from_to(2, 3),
@@ -43,24 +47,16 @@ fn nodes_have_intervals(rt: HostRuntime) -> Result<(), Fail> {
             ];
             assert_eq!(rt; ranged.intervals(), wanted.as_slice());
         }
-        Err(_) => assert!(rt; false),
+        _ => assert!(rt; false),
     }
     Ok(())
 }
 
 #[test]
 fn first_too_wide_has_its_line(rt: HostRuntime) -> Result<(), Fail> {
-    let Ok(program) = parsed(rt.alloc(), JOB)? else {
-        assert!(rt; false);
-        return Ok(());
-    };
-    let Ok(checked) = check_names(rt.alloc(), program) else {
-        assert!(rt; false);
-        return Ok(());
-    };
-    match infer(rt.alloc(), checked, SetName::Pocket) {
-        Ok(_) => assert!(rt; false),
-        Err(fault) => assert_eq!(rt; fault, RangeFault::TooWide(3)),
+    match inferred(rt.alloc(), SetName::Pocket)? {
+        Some(Err(fault)) => assert_eq!(rt; fault, RangeFault::TooWide(3)),
+        _ => assert!(rt; false),
     }
     Ok(())
 }

@@ -1,5 +1,5 @@
 -- The parts of a call: the arguments are put, the locals are set, and the body runs.
-use Rattle.std.proofs.Common.{◌≡◌, ℕ, ◌+◌, ℤ, List, take, Result, Ok, Err, refl, sym, ap, ◌∙◌, subst}
+use Rattle.std.proofs.Common.{◌≡◌, ℕ, ◌+◌, ℤ, List, take, Result, Ok, Err, sym, ap, subst}
 use Rattle.std.specs.Prelude.{⊤}
 use Rattle.outside.specs.Sink.{SinkState}
 use Rattle.source_tree.specs.State.{State}

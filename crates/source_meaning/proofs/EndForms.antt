@@ -1,5 +1,5 @@
 -- What a machine leaves that runs a resolved tree from its start is what the source means.
-use Rattle.std.proofs.Common.{◌≡◌, ℕ, ℤ, List, [], length, sym, ap, ◌∙◌, subst}
+use Rattle.std.proofs.Common.{◌≡◌, ℕ, ℤ, List, [], length, ap, ◌∙◌, subst}
 use Rattle.std.specs.Prelude.{⊤}
 use Rattle.moduli_sets.specs.declared.set_name.SetName.{SetName}
 use Rattle.name_check.specs.Names.{name_faults}

@@ -3,8 +3,6 @@ use Rattle.std.proofs.Common.{◌≡◌, ℕ, zero, suc, ◌+◌, ◌<◌, ◌�
 use Rattle.std.specs.Prelude.{⊤}
 use Rattle.source_tree.specs.Statement.{nothing_done}
 use Rattle.outside.specs.Sink.{SinkState}
-use Rattle.source_tree.specs.State.{State}
-use Rattle.source_tree.specs.Run.{Run}
 use Rattle.source_tree.specs.Expression.{Calls}
 use Rattle.resolved_tree.specs.Meaning.{step_of, steps_of}
 use Rattle.resolved_tree.specs.declared.tree.Step.{Step}

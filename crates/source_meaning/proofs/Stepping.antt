@@ -1,5 +1,5 @@
 -- The forms of a statement, and lists of statements.
-use Rattle.std.proofs.Common.{◌≡◌, ℕ, zero, suc, ◌+◌, ◌<◌, ℤ, Bool, true, false, List, [], ◌∷◌, length, map, drop, Result, Ok, Err, refl, sym, ap, ◌∙◌, subst, arith, get_or}
+use Rattle.std.proofs.Common.{◌≡◌, ℕ, ◌+◌, ℤ, Bool, true, false, List, map, Result, Ok, Err, refl, sym, ap, ◌∙◌, subst}
 use Rattle.std.specs.Prelude.{if◌then◌else◌, ⊤, unsigned_abs}
 use Rattle.moduli_sets.specs.declared.kind.Kind.TheVariants as kind
 use Rattle.outside.specs.Sink.{SinkState}
@@ -7,7 +7,7 @@ use Rattle.source_tree.specs.State.{State}
 use Rattle.source_tree.specs.Run.{Run, visit, print, happens, returns, traps, and_then}
 use Rattle.source_tree.specs.Expression.{Calls}
 use Rattle.source_tree.specs.Statement.{nothing_done, turns_of}
-use Rattle.resolved_tree.specs.Meaning.{elsewhere, Doing, value_of, tested, put_into, read_into, in_order, for_turns, while_turns, argument_values, step_of_node, step_of, steps_of}
+use Rattle.resolved_tree.specs.Meaning.{elsewhere, Doing, value_of, tested, put_into, read_into, for_turns, while_turns, argument_values, step_of_node, step_of, steps_of}
 use Rattle.resolved_tree.specs.declared.slot.Slot.{Slot}
 use Rattle.resolved_tree.specs.declared.tree.Argument.{Argument}
 use Rattle.resolved_tree.specs.declared.tree.Step.{Step, Assign, Print, Read, If, For, While, Call, Skip, ind-Step, roll-Step, map-Step}
@@ -19,7 +19,7 @@ use Rattle.resolved_tree.proofs.Equations.{step-Assign, step-Print, step-Read, s
 use Rattle.source_meaning.specs.declared.machine.Machine.{Machine}
 use Rattle.source_meaning.specs.declared.machine.Stop.{Stop}
 use Rattle.source_meaning.specs.Follows.{state_of, Computes, Follows}
-use Rattle.source_meaning.proofs.Following.{computes_then, quietly, follows_then, follows_stops}
+use Rattle.source_meaning.proofs.Following.{quietly, follows_then, follows_stops}
 use Rattle.source_meaning.proofs.ValueForms.{not_visited}
 
 -- ---- each begins with a visit

@@ -1,5 +1,5 @@
 -- How much there is to do: what falls from call to call.
-use Rattle.std.proofs.Common.{◌≡◌, ℕ, zero, suc, ◌+◌, ◌<◌, ◌≤◌, ℤ, List, [], ◌∷◌, length, map, take, refl, sym, ap, arith, get_or}
+use Rattle.std.proofs.Common.{◌≡◌, ℕ, zero, suc, ◌+◌, ◌<◌, ◌≤◌, ℤ, List, [], ◌∷◌, length, map, take, ap, arith, get_or}
 use Rattle.resolved_tree.specs.declared.slot.Slot.{Slot}
 use Rattle.resolved_tree.specs.declared.tree.Argument.{Argument}
 use Rattle.resolved_tree.specs.declared.tree.Procedure.{Procedure}

@@ -1,10 +1,10 @@
 -- A turn of a `while`, and those that are left.
-use Rattle.std.proofs.Common.{◌≡◌, ℕ, zero, suc, Bool, true, false, List, Result, Ok, Err, refl, sym, ap, ◌∙◌, subst}
+use Rattle.std.proofs.Common.{◌≡◌, ℕ, zero, suc, Bool, true, false, List, Result, Ok, Err, refl, sym, subst}
 use Rattle.std.specs.Prelude.{if◌then◌else◌, ⊤}
 use Rattle.moduli_sets.specs.declared.kind.Kind.TheVariants.{Turns}
 use Rattle.outside.specs.Sink.{SinkState}
 use Rattle.source_tree.specs.State.{State}
-use Rattle.source_tree.specs.Run.{Run, visit, happens, returns, traps, and_then}
+use Rattle.source_tree.specs.Run.{Run, visit, happens, traps, and_then}
 use Rattle.source_tree.specs.Expression.{Calls}
 use Rattle.source_tree.specs.Statement.{nothing_done}
 use Rattle.resolved_tree.specs.Meaning.{tested, while_turns, steps_of}
@@ -14,7 +14,7 @@ use Rattle.source_meaning.specs.declared.machine.Machine.{Machine}
 use Rattle.source_meaning.specs.declared.machine.Stop.{Stop}
 use Rattle.source_meaning.specs.declared.machine.Stop.TheVariants.{Trap}
 use Rattle.source_meaning.specs.Follows.{state_of, Computes, Follows}
-use Rattle.source_meaning.proofs.Following.{same_sizes, computes_then, computes_stops, quietly, follows_then, follows_stops}
+use Rattle.source_meaning.proofs.Following.{same_sizes, quietly, follows_then, follows_stops}
 
 module _ {K : Type 0} (puts : K → List ℕ → K → Type 0) (state : K → SinkState) (calls : ℕ → Calls) (test : Test) (line : ℕ) (body : List Step) (w : Machine) (old : K) where
   -- what comes after the test, by the turns that are left

@@ -1,4 +1,4 @@
-use Rattle.std.proofs.Common.{◌≡◌, ℕ, suc, ◌+◌, ◌-◌, ◌<◌, ◌≤◌, ℤ, pos, ◌+ℤ◌, ◌<ℤ◌, List, length, take, Ok, Err, refl, sym, ap, ◌∙◌, subst, to_z, of_z, rules, arith}
+use Rattle.std.proofs.Common.{◌≡◌, suc, ◌+◌, ◌-◌, ◌≤◌, pos, ◌+ℤ◌, ◌<ℤ◌, take, Ok, Err, refl, sym, ap, subst, to_z, of_z, rules, arith}
 use Rattle.std.proofs.lemmas.Int.{to_z-of_z, ints}
 use borrow.Author.Gap.{gap_up, read_sfits, up_fits}
 use mir.Syntax.{w128}

@@ -1,4 +1,4 @@
-use Rattle.std.proofs.Common.{◌≡◌, ℕ, ◌+◌, length, drop, List, Result}
+use Rattle.std.proofs.Common.{◌+◌, drop, Result}
 use Rattle.std.specs.Prelude.{⊤}
 use borrow.Author.Gap.{gap}
 use Rattle.source_tree.specs.Statement.{turns_of}
