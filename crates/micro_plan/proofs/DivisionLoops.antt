@@ -1,5 +1,5 @@
 -- The loops of a division find how often the divisor goes into the dividend, and keep in range.
-use Rattle.std.proofs.Common.{◌≡◌, ℕ, zero, suc, ◌+◌, ◌-◌, ◌*◌, ◌^◌, ◌<◌, ◌≤◌, ◌==◌, Bool, true, false, ◌||◌, refl, ap, ◌∙◌, arith, inl, inr, ℤ, pos, negsuc, ◌+ℤ◌, ◌-ℤ◌}
+use Rattle.std.proofs.Common.{◌≡◌, ℕ, zero, suc, ◌+◌, ◌-◌, ◌*◌, ◌^◌, ◌<◌, ◌≤◌, ◌==◌, Bool, true, false, ◌||◌, Option, None, Some, refl, ap, ◌∙◌, arith, inl, inr, ℤ, pos, negsuc, ◌+ℤ◌, ◌-ℤ◌}
 use Rattle.std.proofs.lemmas.Bool.{cases_lt, ne_eqb}
 use Rattle.std.proofs.lemmas.Int.{ints}
 use Rattle.std.proofs.Math.Nat.{pow-succ', mul-le-mul_left, mul-one}
@@ -10,7 +10,7 @@ use Rattle.channel_lane.specs.Meaning.{with_integer}
 use Rattle.machine_table.specs.Control.{is_negative}
 use Rattle.machine_table.specs.Integers.{Memory, IntegerRun}
 use Rattle.micro_plan.specs.ActTree.{Acts}
-use Rattle.micro_plan.specs.Division.{doubling_acts, subtracting_acts, counting_acts}
+use Rattle.micro_plan.specs.Division.{counting_acts, doing_or, doubling_acts, subtracting_acts}
 use Rattle.micro_plan.specs.Told.{memory_of, AreInRange}
 use Rattle.micro_plan.proofs.ToldLemmas.{ComesTo, issued, ComesTo-if, ComesTo-else, same_sum, same_difference, AreInRange-with, IsInRange-natural, IsInRange-difference}
 
@@ -72,12 +72,17 @@ room_halved k r y left h half =
     omega arith
 
 -- ---- a division of n by y, after which the registers and words are what they were
-module _ (set : ModuliSet) (run : IntegerRun) (memory : Memory) (y n : ℕ) (positive : 1 ≤ y) (y_fits : y ≤ range_bound set) (n_fits : n ≤ range_bound set) where
+-- a doing that isn't the last stands as it is
+doing-comes : (instead : Option Acts) (set : ModuliSet) (k : ℕ) (doing : Acts) (at : Place → ℤ) (run : IntegerRun) → ComesTo set doing at run → ComesTo set (doing_or instead (suc k) doing) at run
+doing-comes None set k doing at run h = h
+doing-comes (Some other) set k doing at run h = h
+
+module _ (instead : Option Acts) (set : ModuliSet) (run : IntegerRun) (memory : Memory) (y n : ℕ) (positive : 1 ≤ y) (y_fits : y ≤ range_bound set) (n_fits : n ≤ range_bound set) where
   -- acts that follow a doubling loop: it leaves less than half
   abbrev pub FollowDoubling : ℕ → Acts → Type 0
   FollowDoubling r acts = (at : Place → ℤ) (left q : ℕ) → IsCounting set memory y n left q at → left + left < r → ComesTo set acts at run
 
-  doubling-last : (k r q u p power : ℕ) (at : Place → ℤ) (rest : Acts) → IsDoubling set memory y n r q u p power at → u < p → FollowDoubling r rest → ComesTo set (doubling_acts (suc k) rest) at run
+  doubling-last : (k r q u p power : ℕ) (at : Place → ℤ) (rest : Acts) → IsDoubling set memory y n r q u p power at → u < p → FollowDoubling r rest → ComesTo set (doubling_acts instead (suc (suc k)) rest) at run
   doubling-last k r q u p power at rest h below follow =
       let left = h.left in
       let whole = h.whole in
@@ -100,11 +105,12 @@ module _ (set : ModuliSet) (run : IntegerRun) (memory : Memory) (y n : ℕ) (pos
         count_is = count_is;
         whole = omega arith;
       } in
-      issued tt in_1
-      (ComesTo-if set _ _ _ at_1 run (is_left (at (Scratch 4)) (at (Scratch 2)) u p (k == 0) h.left_is h.multiple_is below)
-      (issued tt in_2 (issued tt in_3 (follow at_3 u (q + power) counting (omega arith)))))
+      doing-comes instead set k _ at run
+      (issued tt in_1
+      (ComesTo-if set _ _ _ at_1 run (is_left (at (Scratch 4)) (at (Scratch 2)) u p (suc k == 0) h.left_is h.multiple_is below)
+      (issued tt in_2 (issued tt in_3 (follow at_3 u (q + power) counting (omega arith))))))
 
-  doubling-comes : (k r q u p power : ℕ) (at : Place → ℤ) (rest : Acts) → IsDoubling set memory y n r q u p power at → r < 2 ^ suc k * p → FollowDoubling r rest → ComesTo set (doubling_acts (suc k) rest) at run
+  doubling-comes : (k r q u p power : ℕ) (at : Place → ℤ) (rest : Acts) → IsDoubling set memory y n r q u p power at → r < 2 ^ suc k * p → FollowDoubling r rest → ComesTo set (doubling_acts instead (suc (suc k)) rest) at run
   doubling-comes zero r q u p power at rest h room follow =
       let twice : r < 2 * p = room in
       let left = h.left in
@@ -143,17 +149,18 @@ module _ (set : ModuliSet) (run : IntegerRun) (memory : Memory) (y n : ℕ) (pos
               left = omega arith;
               times = omega arith;
             } in
-            issued tt in_1
-            (ComesTo-else set _ _ _ at_1 run (goes_on (at (Scratch 4)) (at (Scratch 2)) u p k h.left_is h.multiple_is above)
+            doing-comes instead set (suc k) _ at run
+            (issued tt in_1
+            (ComesTo-else set _ _ _ at_1 run (goes_on (at (Scratch 4)) (at (Scratch 2)) u p (suc k) h.left_is h.multiple_is above)
             (issued tt in_2 (issued tt in_3 (issued tt in_4
-            (doubling-comes k r q (u - p) (p + p) (power + power) at_4 rest doubling (room_doubled k r p room) follow)))))
+            (doubling-comes k r q (u - p) (p + p) (power + power) at_4 rest doubling (room_doubled k r p room) follow))))))
       ]
 
   -- acts that follow the counting: the divisor no longer goes into what is left
   abbrev pub FollowCounting : Acts → Type 0
   FollowCounting acts = (at : Place → ℤ) (r q : ℕ) → IsCounting set memory y n r q at → r < y → ComesTo set acts at run
 
-  subtracting-last : (k r q : ℕ) (at : Place → ℤ) (finish : Acts) → IsCounting set memory y n r q at → r < y → FollowCounting finish → ComesTo set (subtracting_acts (suc k) finish) at run
+  subtracting-last : (k r q : ℕ) (at : Place → ℤ) (finish : Acts) → IsCounting set memory y n r q at → r < y → FollowCounting finish → ComesTo set (subtracting_acts instead (suc (suc k)) finish) at run
   subtracting-last k r q at finish h below follow =
       let whole = h.whole in
       let d = at (Scratch 0) -ℤ at (Scratch 1) in
@@ -167,11 +174,12 @@ module _ (set : ModuliSet) (run : IntegerRun) (memory : Memory) (y n : ℕ) (pos
         count_is = h.count_is;
         whole = whole;
       } in
-      issued tt in_1
-      (ComesTo-if set _ _ _ at_1 run (is_left (at (Scratch 0)) (at (Scratch 1)) r y (k == 0) h.rest_is h.divisor_is below)
-      (follow at_1 r q counting below))
+      doing-comes instead set k _ at run
+      (issued tt in_1
+      (ComesTo-if set _ _ _ at_1 run (is_left (at (Scratch 0)) (at (Scratch 1)) r y (suc k == 0) h.rest_is h.divisor_is below)
+      (follow at_1 r q counting below)))
 
-  subtracting-comes : (k r q : ℕ) (at : Place → ℤ) (finish : Acts) → IsCounting set memory y n r q at → r < 2 ^ k * y → range_bound set < 2 ^ 127 → FollowCounting finish → ComesTo set (subtracting_acts (suc k) finish) at run
+  subtracting-comes : (k r q : ℕ) (at : Place → ℤ) (finish : Acts) → IsCounting set memory y n r q at → r < 2 ^ k * y → range_bound set < 2 ^ 126 → FollowCounting finish → ComesTo set (subtracting_acts instead (suc (suc k)) finish) at run
   subtracting-comes zero r q at finish h room small follow =
       let once : r < 1 * y = room in
       subtracting-last zero r q at finish h (omega arith) follow
@@ -199,16 +207,17 @@ module _ (set : ModuliSet) (run : IntegerRun) (memory : Memory) (y n : ℕ) (pos
               left = omega arith;
               times = omega arith;
             } in
-            let wide : r < 2 ^ 128 * y = omega (arith, le_times (2 ^ 128) y positive) in
-            issued tt in_1
-            (ComesTo-else set _ _ _ at_1 run (goes_on (at (Scratch 0)) (at (Scratch 1)) r y k h.rest_is h.divisor_is above)
+            let wide : r < 2 ^ 127 * y = omega (arith, le_times (2 ^ 127) y positive) in
+            doing-comes instead set (suc k) _ at run
+            (issued tt in_1
+            (ComesTo-else set _ _ _ at_1 run (goes_on (at (Scratch 0)) (at (Scratch 1)) r y (suc k) h.rest_is h.divisor_is above)
             (issued tt in_2 (issued tt in_3
-            (doubling-comes 127 r q (r - y) y 1 at_3 (subtracting_acts (suc k) finish) doubling wide
-            (λ at' left q' counting half. subtracting-comes k left q' at' finish counting (room_halved k r y left room half) small follow)))))
+            (doubling-comes 126 r q (r - y) y 1 at_3 (subtracting_acts instead (suc (suc k)) finish) doubling wide
+            (λ at' left q' counting half. subtracting-comes k left q' at' finish counting (room_halved k r y left room half) small follow))))))
       ]
 
   -- from the dividend and the divisor
-  pub counting-comes : (at : Place → ℤ) (finish : Acts) → range_bound set < 2 ^ 127 → AreInRange set at → memory_of at ≡ memory → at (Scratch 0) ≡ pos n → at (Scratch 1) ≡ pos y → FollowCounting finish → ComesTo set (counting_acts finish) at run
+  pub counting-comes : (at : Place → ℤ) (finish : Acts) → range_bound set < 2 ^ 126 → AreInRange set at → memory_of at ≡ memory → at (Scratch 0) ≡ pos n → at (Scratch 1) ≡ pos y → FollowCounting finish → ComesTo set (counting_acts instead finish) at run
   counting-comes at finish small in_range kept dividend_is divisor_is follow =
       let at_1 = with_integer at (Scratch 5) (pos 0) in
       let in_1 = AreInRange-with set at (Scratch 5) (pos 0) in_range (IsInRange-natural set (pos 0) 0 refl (omega arith)) in
@@ -220,5 +229,5 @@ module _ (set : ModuliSet) (run : IntegerRun) (memory : Memory) (y n : ℕ) (pos
         count_is = refl;
         whole = omega arith;
       } in
-      let wide : n < 2 ^ 127 * y = omega (arith, le_times (2 ^ 127) y positive) in
-      issued tt in_1 (subtracting-comes 127 n 0 at_1 finish counting wide small follow)
+      let wide : n < 2 ^ 126 * y = omega (arith, le_times (2 ^ 126) y positive) in
+      issued tt in_1 (subtracting-comes 126 n 0 at_1 finish counting wide small follow)

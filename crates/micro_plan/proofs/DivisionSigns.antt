@@ -1,5 +1,5 @@
 -- DIV and MOD: the signs, the counting between them, and the last operations.
-use Rattle.std.proofs.Common.{◌≡◌, ℕ, zero, suc, ◌+◌, ◌-◌, ◌*◌, ◌/◌, ◌^◌, ◌<◌, ◌≤◌, Bool, true, false, refl, sym, ap, ◌∙◌, subst, arith, ℤ, pos, negsuc, neg_ℤ, ◌-ℤ◌, ◌*ℤ◌}
+use Rattle.std.proofs.Common.{◌≡◌, ℕ, zero, suc, ◌+◌, ◌-◌, ◌*◌, ◌/◌, ◌^◌, ◌<◌, ◌≤◌, Bool, true, false, Option, refl, sym, ap, ◌∙◌, subst, arith, ℤ, pos, negsuc, neg_ℤ, ◌-ℤ◌, ◌*ℤ◌}
 use Rattle.std.specs.Prelude.{unsigned_abs, if◌then◌else◌}
 use Rattle.std.proofs.lemmas.Bool.{le-ltb}
 use Rattle.std.proofs.lemmas.Int.{ints}
@@ -160,21 +160,21 @@ module _ (set : ModuliSet) (run : IntegerRun) (some : 1 ≤ range_bound set) whe
       issued tt in_1 (issued tt in_2 (follow at_2 (record { in_range = in_2; kept = h.kept; dividend_is = x_is; divisor_is = h.divisor_is })))
 
   -- the plan up to its last operations
-  pub division-comes : (b c : ℕ) (at : Place → ℤ) (finish : Bool → Bool → Acts) → range_bound set < 2 ^ 127 → AreInRange set at → is_zero (at (Reg c)) ≡ false
+  pub division-comes : (instead : Option Acts) (b c : ℕ) (at : Place → ℤ) (finish : Bool → Bool → Acts) → range_bound set < 2 ^ 126 → AreInRange set at → is_zero (at (Reg c)) ≡ false
       → ((at' : Place → ℤ) (r q : ℕ) → IsCounting set (memory_of at) (unsigned_abs (at (Reg c))) (dividend (signed (is_negative (at (Reg c))) (at (Reg b)))) r q at' → r < unsigned_abs (at (Reg c))
       → ComesTo set (finish (is_negative (at (Reg c))) (is_negative (signed (is_negative (at (Reg c))) (at (Reg b))))) at' run)
-      → ComesTo set (sign_acts (is_negative (at (Reg c))) b c (turning_acts (is_turned (at (Reg b)) (at (Reg c))) (counting_acts (finish (is_negative (at (Reg c))) (is_turned (at (Reg b)) (at (Reg c))))))) at run
-  division-comes b c at finish small in_range apart follow =
+      → ComesTo set (sign_acts (is_negative (at (Reg c))) b c (turning_acts (is_turned (at (Reg b)) (at (Reg c))) (counting_acts instead (finish (is_negative (at (Reg c))) (is_turned (at (Reg b)) (at (Reg c))))))) at run
+  division-comes instead b c at finish small in_range apart follow =
       let x = at (Reg b) in
       let y = at (Reg c) in
       let negative = is_negative y in
       let z = signed negative x in
       let last = finish negative (is_negative z) in
       let in_z = IsInRange-signed set negative x (in_range (Reg b)) in
-      subst (λ t. ComesTo set (sign_acts negative b c (turning_acts t (counting_acts (finish negative t)))) at run) (sym (is_turned-signed x y apart))
-      (signs-come negative b c at (turning_acts (is_negative z) (counting_acts last)) in_range
-      (λ at_1 h. turning-comes z (signed negative y) (memory_of at) at_1 (counting_acts last) in_z h
-      (λ at_2 k. counting-comes set run (memory_of at) (unsigned_abs y) (dividend z) (divisor_positive y apart) (divisor_fits set y (in_range (Reg c))) (dividend_fits set z in_z)
+      subst (λ t. ComesTo set (sign_acts negative b c (turning_acts t (counting_acts instead (finish negative t)))) at run) (sym (is_turned-signed x y apart))
+      (signs-come negative b c at (turning_acts (is_negative z) (counting_acts instead last)) in_range
+      (λ at_1 h. turning-comes z (signed negative y) (memory_of at) at_1 (counting_acts instead last) in_z h
+      (λ at_2 k. counting-comes instead set run (memory_of at) (unsigned_abs y) (dividend z) (divisor_positive y apart) (divisor_fits set y (in_range (Reg c))) (dividend_fits set z in_z)
       at_2 last small k.in_range k.kept k.dividend_is (k.divisor_is ∙ divisor_is y) follow)))
 
 -- ---- the last operations

@@ -1,5 +1,5 @@
 -- Each operation of an instruction can be performed, whatever is told.
-use Rattle.std.proofs.Common.{◌≡◌, ℕ, zero, suc, ◌+◌, ◌<◌, ◌≤◌, Bool, true, false, ◌||◌, ◌==◌, List, [], ◌∷◌, length, All, refl, arith, ℤ, pos, negsuc}
+use Rattle.std.proofs.Common.{◌≡◌, ℕ, zero, suc, ◌+◌, ◌<◌, ◌≤◌, Bool, true, false, ◌||◌, ◌==◌, List, [], ◌∷◌, length, All, refl, arith, ℤ, pos, negsuc, None}
 use Rattle.std.specs.Prelude.{if◌then◌else◌, int_lt, int_le, nat_lt, unsigned_abs}
 use Rattle.std.specs.List.{AllByRecursion as ByRecursion}
 use Rattle.std.proofs.lemmas.Bool.{and_parts}
@@ -66,7 +66,7 @@ module _ (words channels : ℕ) where
   can_if t if_so if_not h k = all_if (CanPerform words channels) t if_so if_not (λ e. h) k
 
   -- ---- division
-  doubling-can : (k : ℕ) (rest : Acts) → Can rest → Can (doubling_acts k rest)
+  doubling-can : (k : ℕ) (rest : Acts) → Can rest → Can (doubling_acts None k rest)
   doubling-can zero rest h = h
   doubling-can (suc k) rest h = (
     (s6, s4, s2),
@@ -78,14 +78,14 @@ module _ (words channels : ℕ) where
     ),
   )
 
-  subtracting-can : (k : ℕ) (finish : Acts) → Can finish → Can (subtracting_acts k finish)
+  subtracting-can : (k : ℕ) (finish : Acts) → Can finish → Can (subtracting_acts None k finish)
   subtracting-can zero finish h = h
   subtracting-can (suc k) finish h = (
     (s4, s0, s1),
     (
       s4,
       λ d. can_if (is_negative d || (k == 0)) _ _ h
-          ((s2, s1), (s3, doubling-can most_doings (subtracting_acts k finish) (subtracting-can k finish h))),
+          ((s2, s1), (s3, doubling-can most_doings (subtracting_acts None k finish) (subtracting-can k finish h))),
     ),
   )
 
@@ -97,7 +97,7 @@ module _ (words channels : ℕ) where
   turning-can true rest h = (s4, ((s0, s4, s0), h))
   turning-can false rest h = h
 
-  division-can : (b c : ℕ) (zero_divisor : Acts) (finish : Bool → Bool → Acts) → b < 16 → c < 16 → Can zero_divisor → ((negative turned : Bool) → Can (finish negative turned)) → Can (division_acts b c zero_divisor finish)
+  division-can : (b c : ℕ) (zero_divisor : Acts) (finish : Bool → Bool → Acts) → b < 16 → c < 16 → Can zero_divisor → ((negative turned : Bool) → Can (finish negative turned)) → Can (division_acts None b c zero_divisor finish)
   division-can b c zero_divisor finish b_in c_in none each = (
     b_in,
     λ x. (

@@ -1,5 +1,5 @@
 -- Plans end, whatever is told.
-use Rattle.std.proofs.Common.{ℕ, zero, suc, ◌+◌, ◌*◌, ◌≤◌, ◌==◌, ◌||◌, Bool, true, false, cond, sym, subst, arith, ℤ}
+use Rattle.std.proofs.Common.{ℕ, zero, suc, ◌+◌, ◌*◌, ◌≤◌, ◌==◌, ◌||◌, Bool, true, false, cond, sym, subst, arith, ℤ, None}
 use Rattle.moduli_sets.specs.Set.{ModuliSet}
 use Rattle.channel_alu.specs.declared.operation.Place.{Place}
 use Rattle.channel_alu.specs.declared.operation.MicroOp.{MicroOp}
@@ -47,7 +47,7 @@ ends_last : (x : ℤ) (acts other : Acts) (n : ℕ) → Ends n acts → Ends n (
 ends_last x acts other n h = subst (λ b. Ends n (cond b acts other)) (sym (or_true (is_negative x))) h
 
 -- ---- the loops
-doubling-ends : (k r : ℕ) (rest : Acts) → Ends r rest → Ends (5 * k + (4 + r)) (doubling_acts (suc k) rest)
+doubling-ends : (k r : ℕ) (rest : Acts) → Ends r rest → Ends (5 * k + (4 + r)) (doubling_acts None (suc k) rest)
 doubling-ends zero r rest h =
     ends_issue _ _ (3 + r) _ (omega arith) (ends_ask _ _ (2 + r) _ (omega arith) (λ x.
     ends_last x _ _ _ (ends_issue _ _ (1 + r) _ (omega arith) (ends_issue _ _ r _ (omega arith) h))))
@@ -59,7 +59,7 @@ doubling-ends (suc k) r rest h =
     (ends_issue _ _ (1 + r) _ (omega arith) (ends_issue _ _ r _ (omega arith) h))
     (ends_issue _ _ (2 + n) _ (omega arith) (ends_issue _ _ (1 + n) _ (omega arith) (ends_issue _ _ n _ (omega arith) again)))))
 
-subtracting-ends : (n r : ℕ) (finish : Acts) → Ends r finish → Ends (643 * n + (2 + r)) (subtracting_acts (suc n) finish)
+subtracting-ends : (n r : ℕ) (finish : Acts) → Ends r finish → Ends (643 * n + (2 + r)) (subtracting_acts None (suc n) finish)
 subtracting-ends zero r finish h =
     ends_issue _ _ (1 + r) _ (omega arith) (ends_ask _ _ r _ (omega arith) (λ x. ends_last x _ _ _ h))
 subtracting-ends (suc n) r finish h =
@@ -69,9 +69,9 @@ subtracting-ends (suc n) r finish h =
     ends_cond (is_negative x || suc n == 0) _ _ _
     (more finish r _ (omega arith) h)
     (ends_issue _ _ (640 + m) _ (omega arith) (ends_issue _ _ (639 + m) _ (omega arith)
-    (more _ _ _ (omega arith) (doubling-ends 127 m (subtracting_acts (suc n) finish) again))))))
+    (more _ _ _ (omega arith) (doubling-ends 127 m (subtracting_acts None (suc n) finish) again))))))
 
-counting-ends : (r : ℕ) (finish : Acts) → Ends r finish → Ends (81664 + r) (counting_acts finish)
+counting-ends : (r : ℕ) (finish : Acts) → Ends r finish → Ends (81664 + r) (counting_acts None finish)
 counting-ends r finish h = ends_issue _ _ (81663 + r) _ (omega arith) (more _ _ _ (omega arith) (subtracting-ends 127 r finish h))
 
 -- ---- the plans
@@ -97,7 +97,7 @@ remainder-ends a n negative true rest h =
 remainder-ends a n negative false rest h = more _ (1 + n) _ (omega arith) (signed-ends a n negative rest h)
 
 division-ends : (b c n : ℕ) (zero_divisor : Acts) (finish : Bool → Bool → Acts) → Ends n zero_divisor → ((negative turned : Bool) → Ends (4 + n) (finish negative turned))
-    → Ends (most_operations + n) (division_acts b c zero_divisor finish)
+    → Ends (most_operations + n) (division_acts None b c zero_divisor finish)
 division-ends b c n zero_divisor finish h k =
     ends_ask _ _ (81673 + n) _ (omega arith) (λ x. ends_ask _ _ (81672 + n) _ (omega arith) (λ y.
     ends_cond (is_zero y) _ _ _ (more zero_divisor n _ (omega arith) h)

@@ -91,17 +91,17 @@ pub or_true : (b : Bool) → (b || true) ≡ true
 or_true true = refl
 or_true false = refl
 
-pub rest_last : (n : ℕ) (x : ℤ) (acts : Acts) → (is_negative x || n == 0) ≡ true → told x (after (subtracting_acts (suc n) acts)) ≡ acts
+pub rest_last : (n : ℕ) (x : ℤ) (acts : Acts) → (is_negative x || n == 0) ≡ true → told x (after (subtracting_acts None (suc n) acts)) ≡ acts
 rest_last n x acts e =
-    ap (λ b. cond b acts (issue (Copy (Scratch 2) (Scratch 1)) (issue (Put (Scratch 3) (pos 1)) (doubling_acts most_doings (subtracting_acts n acts))))) e
+    ap (λ b. cond b acts (issue (Copy (Scratch 2) (Scratch 1)) (issue (Put (Scratch 3) (pos 1)) (doubling_acts None most_doings (subtracting_acts None n acts))))) e
 
 suc-not-zero : (n : ℕ) → (suc n == 0) ≡ false
 suc-not-zero n = search (rules, tests)
 
 -- what is left after the first operation of a doing that isn't the last
-pub power_left : (n : ℕ) (acts : Acts) → after (told (pos 0) (after (subtracting_acts (suc (suc n)) acts))) ≡ issue (Put (Scratch 3) (pos 1)) (doubling_acts most_doings (subtracting_acts (suc n) acts))
+pub power_left : (n : ℕ) (acts : Acts) → after (told (pos 0) (after (subtracting_acts None (suc (suc n)) acts))) ≡ issue (Put (Scratch 3) (pos 1)) (doubling_acts None most_doings (subtracting_acts None (suc n) acts))
 power_left n acts =
-    ap (λ b. after (cond b acts (issue (Copy (Scratch 2) (Scratch 1)) (issue (Put (Scratch 3) (pos 1)) (doubling_acts most_doings (subtracting_acts (suc n) acts)))))) (suc-not-zero n)
+    ap (λ b. after (cond b acts (issue (Copy (Scratch 2) (Scratch 1)) (issue (Put (Scratch 3) (pos 1)) (doubling_acts None most_doings (subtracting_acts None (suc n) acts)))))) (suc-not-zero n)
 
 -- at a doing that isn't the last some are left
 pub not_last : (n : ℕ) (x : ℤ) → (is_negative x || n == 0) ≡ false → n ≢ 0
@@ -109,28 +109,28 @@ not_last n x e none = false≢true (sym e ∙ ap (λ k. is_negative x || k == 0)
 
 -- a doing of the outer loop that isn't the last
 pub rest_more : (n : ℕ) (x : ℤ) (acts : Acts) → (is_negative x || n == 0) ≡ false
-    → told x (after (subtracting_acts (suc n) acts)) ≡ issue (Copy (Scratch 2) (Scratch 1)) (after (told (pos 0) (after (subtracting_acts (suc (suc (n - 1))) acts))))
+    → told x (after (subtracting_acts None (suc n) acts)) ≡ issue (Copy (Scratch 2) (Scratch 1)) (after (told (pos 0) (after (subtracting_acts None (suc (suc (n - 1))) acts))))
 rest_more n x acts e =
     let some : n ≢ 0 = not_last n x e in
     let same : suc (n - 1) ≡ n = omega (arith, some) in
-    ap (λ b. cond b acts (issue (Copy (Scratch 2) (Scratch 1)) (issue (Put (Scratch 3) (pos 1)) (doubling_acts most_doings (subtracting_acts n acts))))) e
-    ∙ ap (λ k. issue (Copy (Scratch 2) (Scratch 1)) (issue (Put (Scratch 3) (pos 1)) (doubling_acts most_doings (subtracting_acts k acts)))) (sym same)
+    ap (λ b. cond b acts (issue (Copy (Scratch 2) (Scratch 1)) (issue (Put (Scratch 3) (pos 1)) (doubling_acts None most_doings (subtracting_acts None n acts))))) e
+    ∙ ap (λ k. issue (Copy (Scratch 2) (Scratch 1)) (issue (Put (Scratch 3) (pos 1)) (doubling_acts None most_doings (subtracting_acts None k acts)))) (sym same)
     ∙ ap (issue (Copy (Scratch 2) (Scratch 1))) (sym (power_left (n - 1) acts))
 
 -- ---- the signs are told
 -- the first operation where the divisor isn't 0
 pub signs_told : (d : Division) (x y : ℤ) (negative turned : Bool) (zero_divisor rest : Acts) → is_zero y ≡ false → negative ≡ is_negative y → turned ≡ is_turned x y
-    → told y (told x (whole_division d zero_divisor rest)) ≡ issue (signed negative (Scratch 0) (Reg d.b)) (after (sign_acts negative d.b d.c (turning_acts turned (counting_acts (finish_by d.part d.a negative turned rest)))))
+    → told y (told x (whole_division d zero_divisor rest)) ≡ issue (signed negative (Scratch 0) (Reg d.b)) (after (sign_acts negative d.b d.c (turning_acts turned (counting_acts None (finish_by d.part d.a negative turned rest)))))
 signs_told d x y negative turned zero_divisor rest some n t =
-    let acts : Bool → Bool → Acts = λ n t. sign_acts n d.b d.c (turning_acts t (counting_acts (finish_by d.part d.a n t rest))) in
+    let acts : Bool → Bool → Acts = λ n t. sign_acts n d.b d.c (turning_acts t (counting_acts None (finish_by d.part d.a n t rest))) in
     ap (λ b. cond b zero_divisor (acts (is_negative y) (is_turned x y))) some
     ∙ ap (λ n. acts n (is_turned x y)) (sym n)
     ∙ ap (λ t. acts negative t) (sym t)
-    ∙ first_sign negative d.b d.c (turning_acts turned (counting_acts (finish_by d.part d.a negative turned rest)))
+    ∙ first_sign negative d.b d.c (turning_acts turned (counting_acts None (finish_by d.part d.a negative turned rest)))
 
 pub zero_proceeds : (d new : Division) (x y : ℤ) → is_zero y ≡ true → new ≡ at_step d step.Zero → Proceeds (question_left d (Divisor x) y) (question_most (Divisor x)) (course.Division d) Zero (course.Division new)
 zero_proceeds d new x y none new_is =
-    let acts : Acts → Acts = λ rest. sign_acts (is_negative y) d.b d.c (turning_acts (is_turned x y) (counting_acts (finish_by d.part d.a (is_negative y) (is_turned x y) rest))) in
+    let acts : Acts → Acts = λ rest. sign_acts (is_negative y) d.b d.c (turning_acts (is_turned x y) (counting_acts None (finish_by d.part d.a (is_negative y) (is_turned x y) rest))) in
     let here : Proceeds (question_left d (Divisor x) y) (question_most (Divisor x)) (course.Division d) Zero (course.Division (at_step d step.Zero)) = record {
       next = λ zero_divisor rest. (ap (λ b. cond b zero_divisor (acts rest)) none, refl);
       waits = refl;
@@ -176,9 +176,9 @@ proceeds_same left other most more d new result same le h = record {
 
 -- ---- a plan begins
 pub division-begins : (d : Division) (part : Part) (a b c : ℕ) (zero_divisor rest : Acts) → d.part ≡ part → d.a ≡ a → d.b ≡ b → d.c ≡ c → d.stage ≡ Does ShowDividend
-    → division_left d None zero_divisor rest ≡ division_acts b c zero_divisor (λ negative turned. finish_by part a negative turned rest)
+    → division_left d None zero_divisor rest ≡ division_acts None b c zero_divisor (λ negative turned. finish_by part a negative turned rest)
 division-begins d part a b c zero_divisor rest part_is a_is b_is c_is stage_is =
-    let acts : Part → ℕ → ℕ → ℕ → Acts = λ p a b c. division_acts b c zero_divisor (λ negative turned. finish_by p a negative turned rest) in
+    let acts : Part → ℕ → ℕ → ℕ → Acts = λ p a b c. division_acts None b c zero_divisor (λ negative turned. finish_by p a negative turned rest) in
     ap (λ s. stage_left d s None zero_divisor rest) stage_is
     ∙ ap (λ p. acts p d.a d.b d.c) part_is
     ∙ ap (λ n. acts part n d.b d.c) a_is

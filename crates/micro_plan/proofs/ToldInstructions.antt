@@ -1,12 +1,12 @@
 -- The acts of each instruction come to what the integer machine says of it.
-use Rattle.std.proofs.Common.{◌≡◌, ℕ, zero, suc, ◌+◌, ◌-◌, ◌^◌, ◌<◌, ◌≤◌, Bool, true, false, List, [], ◌∷◌, take, length, slice_index, All, refl, sym, subst, arith, ℤ, pos, neg_ℤ, ◌+ℤ◌, ◌-ℤ◌, ◌*ℤ◌, ◌≤ℤ◌, div-le_self, length-drop}
+use Rattle.std.proofs.Common.{◌≡◌, ℕ, zero, suc, ◌+◌, ◌-◌, ◌^◌, ◌<◌, ◌≤◌, Bool, true, false, List, [], ◌∷◌, take, length, slice_index, All, Option, None, refl, sym, subst, arith, ℤ, pos, neg_ℤ, ◌+ℤ◌, ◌-ℤ◌, ◌*ℤ◌, ◌≤ℤ◌, length-drop}
 use Rattle.std.specs.Prelude.{if◌then◌else◌, int_le, nat_lt, unsigned_abs, T}
 use Rattle.std.specs.List.{AllByRecursion as ByRecursion}
 use Rattle.std.specs.Int.Signed.{le_z_yes}
 use Rattle.std.proofs.lemmas.Bool.{and_parts}
 use Rattle.std.proofs.lemmas.List.Elements.{All-get_or, recursion_from_All}
 use Rattle.std.proofs.lemmas.Nat.{le-div}
-use Rattle.std.proofs.Math.Nat.{mul-le-mul_left}
+use Rattle.std.proofs.Math.Nat.{mul-div-le, mul-le-mul_left}
 use Rattle.number_theory.specs.Coprime.{product}
 use Rattle.number_theory.specs.Residue.{quotient}
 use Rattle.number_theory.specs.Division.{floor_div, floor_mod}
@@ -21,7 +21,7 @@ use Rattle.machine_table.specs.Control.{Control, next, with_input, with_places, 
 use Rattle.machine_table.specs.Integers.{Memory, IntegerRun, stands, unfit, with_register, with_word, computes, divides, reads, returns, is_index, step, IsFit}
 use Rattle.machine_table.specs.Operands.{Shape, IsSoundOperand, operands_of}
 use Rattle.micro_plan.specs.ActTree.{Acts, go_on, end_by}
-use Rattle.micro_plan.specs.Division.{division_acts, quotient_plan, remainder_plan, quotient_acts, remainder_acts, sign_acts, turning_acts, counting_acts, is_turned}
+use Rattle.micro_plan.specs.Division.{division_acts, quotient_plan_or, remainder_plan_or, quotient_acts, remainder_acts, sign_acts, turning_acts, counting_acts, is_turned}
 use Rattle.micro_plan.specs.Acts.{issues, read_acts, return_acts, acts_of}
 use Rattle.micro_plan.specs.Told.{memory_of, AreInRange}
 use Rattle.micro_plan.proofs.ToldLemmas.{ComesTo, ComesTo-or_end, ComesTo-end_or, AreInRange-with, IsInRange-neg, IsInRange-between, IsInRange-quotient}
@@ -40,11 +40,11 @@ product-take zero ms h = product_positive ms h
 product-take (suc n) [] h = omega arith
 product-take (suc n) (m ∷ ms) h = mul-le-mul_left m (product-take n ms h.1)
 
-bound_small : (set : ModuliSet) → IsModuliSet set → range_bound set < 2 ^ 127
+bound_small : (set : ModuliSet) → IsModuliSet set → range_bound set < 2 ^ 126
 bound_small set rules =
     let fits = rules.fits in
     let part = product-take set.info set.moduli (recursion_from_All IsModulus set.moduli rules.moduli) in
-    omega (arith, part, div-le_self (information_product set - 1) 2)
+    omega (arith, part, mul-div-le (information_product set - 1) 2)
 
 bound_some : (set : ModuliSet) → IsModuliSet set → 1 ≤ range_bound set
 bound_some set rules =
@@ -91,34 +91,34 @@ returns-comes set line (place ∷ places) control at = (refl, tt)
 
 -- ---- dividing
 -- a plan whose last operations make v in register a
-divides-comes : (set : ModuliSet) (a b c line : ℕ) (v : ℤ) (control : Control) (at : Place → ℤ) (finish : Bool → Bool → Acts) → IsModuliSet set → AreInRange set at
+divides-comes : (instead : Option Acts) (set : ModuliSet) (a b c line : ℕ) (v : ℤ) (control : Control) (at : Place → ℤ) (finish : Bool → Bool → Acts) → IsModuliSet set → AreInRange set at
     → (is_zero (at (Reg c)) ≡ false → (at' : Place → ℤ) (r q : ℕ) → IsCounting set (memory_of at) (unsigned_abs (at (Reg c))) (dividend (signed (is_negative (at (Reg c))) (at (Reg b)))) r q at' → r < unsigned_abs (at (Reg c))
     → ComesTo set (finish (is_negative (at (Reg c))) (is_negative (signed (is_negative (at (Reg c))) (at (Reg b))))) at' (stands (next control) (with_register a v (memory_of at))))
-    → ComesTo set (division_acts b c (end_by (traps Zero line)) finish) at (divides a (at (Reg c)) v line control (memory_of at))
-divides-comes set a b c line v control at finish rules fits last =
+    → ComesTo set (division_acts instead b c (end_by (traps Zero line)) finish) at (divides a (at (Reg c)) v line control (memory_of at))
+divides-comes instead set a b c line v control at finish rules fits last =
     let x = at (Reg b) in
     let y = at (Reg c) in
     let run = stands (next control) (with_register a v (memory_of at)) in
-    ComesTo-end_or set (is_zero y) (sign_acts (is_negative y) b c (turning_acts (is_turned x y) (counting_acts (finish (is_negative y) (is_turned x y))))) (traps Zero line) at run
-    (λ apart. division-comes set run (bound_some set rules) b c at finish (bound_small set rules) fits apart (last apart))
+    ComesTo-end_or set (is_zero y) (sign_acts (is_negative y) b c (turning_acts (is_turned x y) (counting_acts instead (finish (is_negative y) (is_turned x y))))) (traps Zero line) at run
+    (λ apart. division-comes set run (bound_some set rules) instead b c at finish (bound_small set rules) fits apart (last apart))
 
-quotient_plan-comes : (set : ModuliSet) (a b c line : ℕ) (control : Control) (at : Place → ℤ) → IsModuliSet set → AreInRange set at
-    → ComesTo set (quotient_plan a b c (end_by (traps Zero line)) (go_on (next control))) at (divides a (at (Reg c)) (floor_div (at (Reg b)) (at (Reg c))) line control (memory_of at))
-quotient_plan-comes set a b c line control at rules fits =
+pub quotient_plan-comes : (instead : Option Acts) (set : ModuliSet) (a b c line : ℕ) (control : Control) (at : Place → ℤ) → IsModuliSet set → AreInRange set at
+    → ComesTo set (quotient_plan_or instead a b c (end_by (traps Zero line)) (go_on (next control))) at (divides a (at (Reg c)) (floor_div (at (Reg b)) (at (Reg c))) line control (memory_of at))
+quotient_plan-comes instead set a b c line control at rules fits =
     let x = at (Reg b) in
     let y = at (Reg c) in
     let v = floor_div x y in
-    divides-comes set a b c line v control at (λ negative turned. quotient_acts a turned (go_on (next control))) rules fits
+    divides-comes instead set a b c line v control at (λ negative turned. quotient_acts a turned (go_on (next control))) rules fits
     (λ apart at' r q h below. quotient-comes set a (next control) (memory_of at) (bound_some set rules) (signed (is_negative y) x) v (unsigned_abs y) r q at' h
     (quotient_is x y r q below h.whole) (IsInRange-floor_div set x y apart (fits (Reg b))))
 
-remainder_plan-comes : (set : ModuliSet) (a b c line : ℕ) (control : Control) (at : Place → ℤ) → IsModuliSet set → AreInRange set at
-    → ComesTo set (remainder_plan a b c (end_by (traps Zero line)) (go_on (next control))) at (divides a (at (Reg c)) (floor_mod (at (Reg b)) (at (Reg c))) line control (memory_of at))
-remainder_plan-comes set a b c line control at rules fits =
+pub remainder_plan-comes : (instead : Option Acts) (set : ModuliSet) (a b c line : ℕ) (control : Control) (at : Place → ℤ) → IsModuliSet set → AreInRange set at
+    → ComesTo set (remainder_plan_or instead a b c (end_by (traps Zero line)) (go_on (next control))) at (divides a (at (Reg c)) (floor_mod (at (Reg b)) (at (Reg c))) line control (memory_of at))
+remainder_plan-comes instead set a b c line control at rules fits =
     let x = at (Reg b) in
     let y = at (Reg c) in
     let v = floor_mod x y in
-    divides-comes set a b c line v control at (λ negative turned. remainder_acts a negative turned (go_on (next control))) rules fits
+    divides-comes instead set a b c line v control at (λ negative turned. remainder_acts a negative turned (go_on (next control))) rules fits
     (λ apart at' r q h below. remainder-comes set a (next control) (memory_of at) (bound_some set rules) (is_negative y) (signed (is_negative y) x) v (unsigned_abs y) r q at' h
     below (divisor_fits set y (fits (Reg c))) (remainder_is x y r q apart below h.whole))
 
@@ -162,8 +162,8 @@ step_by shape (Mac a b c) control at rules sound fits fit =
     let x = (at (Reg b) *ℤ at (Reg c)) +ℤ at (Reg a) in
     let k = computed shape.set a x control (memory_of at) fit in
     (sym k.1, (tt, AreInRange-with shape.set at (Reg a) x fits k.0, tt))
-step_by shape (Div a b c line) control at rules sound fits fit = quotient_plan-comes shape.set a b c line control at rules fits
-step_by shape (Mod a b c line) control at rules sound fits fit = remainder_plan-comes shape.set a b c line control at rules fits
+step_by shape (Div a b c line) control at rules sound fits fit = quotient_plan-comes None shape.set a b c line control at rules fits
+step_by shape (Mod a b c line) control at rules sound fits fit = remainder_plan-comes None shape.set a b c line control at rules fits
 step_by shape (Scl a b s) control at rules sound fits fit =
     let below : s < shape.set.info = sound.1.1.0 in
     let channel : s < length shape.set.moduli = omega (arith, info_below shape.set rules) in

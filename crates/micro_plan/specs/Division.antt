@@ -1,6 +1,6 @@
 -- The plans of scaling and division. Channels add, subtract and multiply, but can't compare; so the quotient is found by
 -- doubling the divisor, and only the signs of what is shown direct it.
-use Rattle.std.specs.Prelude.{ℕ, zero, suc, ◌==◌, ℤ, pos, negsuc, Bool, true, false, ◌&&◌, ◌||◌, slice_index, if◌then◌else◌}
+use Rattle.std.specs.Prelude.{ℕ, zero, suc, ◌==◌, ℤ, pos, negsuc, Bool, true, false, ◌&&◌, ◌||◌, slice_index, Option, Some, None, if◌then◌else◌}
 use Rattle.number_theory.specs.Residue.{residue, quotient}
 use Rattle.moduli_sets.specs.Set.{ModuliSet}
 use Rattle.channel_alu.specs.declared.operation.Place.TheVariants.{Reg, Scratch}
@@ -15,34 +15,43 @@ scaling_acts set a b channel rest =
     ask (Reg b) (λ x. issue (Unscale (Reg a) (Reg b) channel (residue x m) (residue (quotient x m) m)) rest)
 
 -- ---- division: s0 is the dividend, s1 the divisor, both at first R(b) and R(c) with a sign that makes the divisor positive
--- Each loop is left at its 128th doing, whatever is shown: where no answer is faulty none comes that far.
+-- Each loop is left at its 128th doing, whatever is shown: where no answer is faulty none comes that far
+-- (`no_division_is_cut`).
 abbrev pub most_doings : ℕ
 most_doings = 128
 
+-- A doing of a loop after which k are left. To say that none comes as far as the last, other acts are put in its place.
+abbrev pub doing_or : Option Acts → ℕ → Acts → Acts
+doing_or None k doing = doing
+doing_or (Some other) zero doing = other
+doing_or (Some other) (suc k) doing = doing
+
 -- s2 is s1 doubled some times, s3 the power of 2, and s4 what is left of s0. While s2 goes into s4 they are doubled, and s4
 -- is what then is left; k doings are left. Then s4 is the new s0, s3 is counted in s5, and the rest follows.
-abbrev pub doubling_acts : ℕ → Acts → Acts
-doubling_acts zero rest = rest
-doubling_acts (suc k) rest =
-    issue (Sub (Scratch 6) (Scratch 4) (Scratch 2)) (ask (Scratch 6) (λ d.
+abbrev pub doubling_acts : Option Acts → ℕ → Acts → Acts
+doubling_acts instead zero rest = rest
+doubling_acts instead (suc k) rest =
+    doing_or instead k
+    (issue (Sub (Scratch 6) (Scratch 4) (Scratch 2)) (ask (Scratch 6) (λ d.
     if is_negative d || k == 0 then
     issue (Copy (Scratch 0) (Scratch 4)) (issue (Add (Scratch 5) (Scratch 5) (Scratch 3)) rest)
     else
     issue (Add (Scratch 2) (Scratch 2) (Scratch 2)) (issue (Add (Scratch 3) (Scratch 3) (Scratch 3))
-    (issue (Copy (Scratch 4) (Scratch 6)) (doubling_acts k rest)))))
+    (issue (Copy (Scratch 4) (Scratch 6)) (doubling_acts instead k rest))))))
 
 -- while s1 goes into s0 it is taken off as often as doubling finds; n doings are left
-abbrev pub subtracting_acts : ℕ → Acts → Acts
-subtracting_acts zero finish = finish
-subtracting_acts (suc n) finish =
-    issue (Sub (Scratch 4) (Scratch 0) (Scratch 1)) (ask (Scratch 4) (λ d.
+abbrev pub subtracting_acts : Option Acts → ℕ → Acts → Acts
+subtracting_acts instead zero finish = finish
+subtracting_acts instead (suc n) finish =
+    doing_or instead n
+    (issue (Sub (Scratch 4) (Scratch 0) (Scratch 1)) (ask (Scratch 4) (λ d.
     if is_negative d || n == 0 then finish
     else issue (Copy (Scratch 2) (Scratch 1)) (issue (Put (Scratch 3) (pos 1))
-    (doubling_acts most_doings (subtracting_acts n finish)))))
+    (doubling_acts instead most_doings (subtracting_acts instead n finish))))))
 
 -- s5 counts how often s1 goes into s0, which keeps the remainder
-abbrev pub counting_acts : Acts → Acts
-counting_acts finish = issue (Put (Scratch 5) (pos 0)) (subtracting_acts most_doings finish)
+abbrev pub counting_acts : Option Acts → Acts → Acts
+counting_acts instead finish = issue (Put (Scratch 5) (pos 0)) (subtracting_acts instead most_doings finish)
 
 -- both change their sign where the divisor is negative
 abbrev pub sign_acts : Bool → ℕ → ℕ → Acts → Acts
@@ -60,12 +69,12 @@ turning_acts false rest = rest
 
 -- `zero_divisor` is what comes where the divisor is 0; what comes after the counting goes by whether the divisor is negative
 -- and whether the plan was turned
-abbrev pub division_acts : ℕ → ℕ → Acts → (Bool → Bool → Acts) → Acts
-division_acts b c zero_divisor finish =
+abbrev pub division_acts : Option Acts → ℕ → ℕ → Acts → (Bool → Bool → Acts) → Acts
+division_acts instead b c zero_divisor finish =
     ask (Reg b) (λ x. ask (Reg c) (λ y.
     if is_zero y then zero_divisor
     else sign_acts (is_negative y) b c (turning_acts (is_turned x y)
-    (counting_acts (finish (is_negative y) (is_turned x y))))))
+    (counting_acts instead (finish (is_negative y) (is_turned x y))))))
 
 -- the quotient
 abbrev pub quotient_acts : ℕ → Bool → Acts → Acts
@@ -87,11 +96,19 @@ remainder_acts a negative false rest = signed_acts a negative rest
 abbrev pub Plan : Type 0
 Plan = Acts → Acts → Acts
 
+abbrev pub quotient_plan_or : Option Acts → ℕ → ℕ → ℕ → Plan
+quotient_plan_or instead a b c zero_divisor rest =
+    division_acts instead b c zero_divisor (λ negative turned. quotient_acts a turned rest)
+
+abbrev pub remainder_plan_or : Option Acts → ℕ → ℕ → ℕ → Plan
+remainder_plan_or instead a b c zero_divisor rest =
+    division_acts instead b c zero_divisor (λ negative turned. remainder_acts a negative turned rest)
+
 abbrev pub quotient_plan : ℕ → ℕ → ℕ → Plan
-quotient_plan a b c zero_divisor rest = division_acts b c zero_divisor (λ negative turned. quotient_acts a turned rest)
+quotient_plan a b c = quotient_plan_or None a b c
 
 abbrev pub remainder_plan : ℕ → ℕ → ℕ → Plan
-remainder_plan a b c zero_divisor rest = division_acts b c zero_divisor (λ negative turned. remainder_acts a negative turned rest)
+remainder_plan a b c = remainder_plan_or None a b c
 
 abbrev pub scaling_plan : ModuliSet → ℕ → ℕ → ℕ → Plan
 scaling_plan set a b channel zero_divisor rest = scaling_acts set a b channel rest

@@ -60,23 +60,23 @@ finish d rest = finish_by d.part d.a d.negative d.turned rest
 
 -- a doing of the outer loop after which n are left, and one of the inner loop after which k are left
 abbrev pub outer : Division → ℕ → Acts → Acts
-outer d n rest = subtracting_acts (suc n) (finish d rest)
+outer d n rest = subtracting_acts None (suc n) (finish d rest)
 
 abbrev pub inner : Division → ℕ → ℕ → Acts → Acts
-inner d n k rest = doubling_acts (suc k) (outer d n rest)
+inner d n k rest = doubling_acts None (suc k) (outer d n rest)
 
 abbrev pub whole_division : Division → Plan
 whole_division d zero_divisor rest =
-    division_acts d.b d.c zero_divisor (λ negative turned. finish_by d.part d.a negative turned rest)
+    division_acts None d.b d.c zero_divisor (λ negative turned. finish_by d.part d.a negative turned rest)
 
 -- what is left where a step is next
 abbrev pub step_left : Division → Step → Plan
 step_left d step.ShowDividend zero_divisor rest = whole_division d zero_divisor rest
 step_left d step.SignDivisor zero_divisor rest =
-    after (sign_acts d.negative d.b d.c (turning_acts d.turned (counting_acts (finish d rest))))
-step_left d step.PutMinusOne zero_divisor rest = turning_acts true (counting_acts (finish d rest))
-step_left d step.TurnDividend zero_divisor rest = after (turning_acts true (counting_acts (finish d rest)))
-step_left d step.ClearCount zero_divisor rest = counting_acts (finish d rest)
+    after (sign_acts d.negative d.b d.c (turning_acts d.turned (counting_acts None (finish d rest))))
+step_left d step.PutMinusOne zero_divisor rest = turning_acts true (counting_acts None (finish d rest))
+step_left d step.TurnDividend zero_divisor rest = after (turning_acts true (counting_acts None (finish d rest)))
+step_left d step.ClearCount zero_divisor rest = counting_acts None (finish d rest)
 step_left d (step.SubtractDivisor n) zero_divisor rest = outer d n rest
 step_left d (step.ShowRest n) zero_divisor rest = after (outer d n rest)
 step_left d (step.StartPower n) zero_divisor rest = after (told (pos 0) (after (outer d (suc n) rest)))

@@ -1,14 +1,17 @@
-ghost use Rattle.std.specs.Prelude.{◌≡◌, ℕ, ℤ, List, All, length};
+ghost use Rattle.std.specs.Prelude.{◌≡◌, ℕ, ℤ, List, All, Some, length};
 ghost use Rattle.moduli_sets.specs.Set.{IsModuliSet, ModuliSet};
+ghost use Rattle.moduli_sets.specs.declared.kind.Kind.TheVariants.{Zero};
 ghost use Rattle.channel_alu.specs.declared.operation.Place.{Place};
 ghost use Rattle.machine_table.specs.declared.instr.Instr.{Instr};
-ghost use Rattle.machine_table.specs.Control.{Control, control_at_start};
+ghost use Rattle.machine_table.specs.declared.instr.Instr.TheVariants.{Div, Mod};
+ghost use Rattle.machine_table.specs.Control.{Control, control_at_start, next, traps};
 ghost use Rattle.machine_table.specs.Faults.{IsSound};
 ghost use Rattle.machine_table.specs.Integers.{IsFit, integer_run, run_from, step};
 ghost use Rattle.machine_table.specs.Operands.{IsSoundOperand, Shape, operands_of};
 ghost use Rattle.channel_lane.specs.Meaning.{CanPerform, integers_at_start};
-ghost use Rattle.micro_plan.specs.ActTree.{AllOperations};
+ghost use Rattle.micro_plan.specs.ActTree.{Acts, AllOperations, end_by, go_on};
 ghost use Rattle.micro_plan.specs.Acts.{acts_of, acts_of_run};
+ghost use Rattle.micro_plan.specs.Division.{quotient_plan_or, remainder_plan_or};
 ghost use Rattle.micro_plan.specs.Told.{AreInRange, StayTrue, integers_by, memory_of};
 
 /// Where the integer machine keeps in range, the acts of an instruction that are told the integers held come to what the
@@ -57,6 +60,22 @@ pub fn runs_follow_the_integer_machine()
         → IsSound set code words
         → IsFit (integer_run set code words n input)
         → StayTrue set (acts_of_run set code n (control_at_start input)) (integers_at_start words) }
+{}
+
+/// A division that is told the integers held leaves each loop by its own test, before the 128th doing: whatever stood in the
+/// place of that doing, it comes to what the integer machine says. So the rule on the 128th doing cuts no plan that is told
+/// what is held.
+pub fn no_division_is_cut()
+    ensures quotient { (set : ModuliSet) (a b c line : ℕ) (other : Acts) (control : Control) (at : Place → ℤ)
+        → IsModuliSet set
+        → AreInRange set at
+        → integers_by set.moduli (quotient_plan_or (Some other) a b c (end_by (traps Zero line)) (go_on (next control))) at
+        ≡ step set (Div a b c line) control (memory_of at) }
+    ensures remainder { (set : ModuliSet) (a b c line : ℕ) (other : Acts) (control : Control) (at : Place → ℤ)
+        → IsModuliSet set
+        → AreInRange set at
+        → integers_by set.moduli (remainder_plan_or (Some other) a b c (end_by (traps Zero line)) (go_on (next control))) at
+        ≡ step set (Mod a b c line) control (memory_of at) }
 {}
 
 /// Each operation of an instruction, and of a run of a sound program, can be performed, and each place that is shown

@@ -13,7 +13,8 @@ mod plan_laws;
 mod plan_scaling;
 
 pub use laws::{
-    acts_can_be_performed, acts_follow_the_integer_machine, runs_follow_the_integer_machine,
+    acts_can_be_performed, acts_follow_the_integer_machine, no_division_is_cut,
+    runs_follow_the_integer_machine,
 };
 pub use next::Next;
 pub use plan::Plan;

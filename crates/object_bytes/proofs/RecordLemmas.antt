@@ -5,9 +5,12 @@ use Rattle.std.specs.Prelude.{slice_get, slice_index, is_some}
 use Rattle.std.specs.Int.{w32, w128, to_be_bytes, from_be_bytes, cast_signed}
 use Rattle.std.specs.Int.RustNames.{FitsSigned}
 use Rattle.std.specs.List.{AllByRecursion}
+use Rattle.std.specs.Option.{option_copied}
+use Rattle.std.specs.Slice.{IsItemAt}
+use denote.Bor.{Bor}
 use Rattle.std.proofs.lemmas.Bool.{cases_lt}
 use Rattle.std.proofs.lemmas.Int.{ints}
-use Rattle.std.proofs.lemmas.Option.{slice_get_past}
+use Rattle.std.proofs.lemmas.Option.{slice_get_past, slice_get_read}
 use Rattle.std.proofs.lemmas.List.{take-append-drop, drop-take, drop-drop, length-drop, length-take, take_all, get_or-drop, get_or-take, get_or_past}
 use Rattle.moduli_sets.specs.Set.{ModuliSet, IsInRange, range_bound}
 use Rattle.machine_table.specs.Operands.{Shape, IsSoundOperand, operands_of}
@@ -82,6 +85,22 @@ module _ (a b c line : ℕ) (p q : ℤ) (m n : ℕ) where
   agree_at (suc j) k (instr ∷ is) (l ∷ ls) layout h e =
       let rest = agree_at j (suc k) is ls layout h.1 e in
       (rest.0, rest.1, rest.2 ∙ ap (λ i. laid i layout) (let same : j + suc k ≡ suc j + k = omega arith in same))
+
+-- a copy of the item at a place
+pub copied_at : {X : Type 0} (xs : List X) (i : ℕ) (r : Option (Bor X)) → IsItemAt xs i r → option_copied r ≡ slice_get xs i
+copied_at xs i None h = sym (slice_get_past xs i h.3)
+copied_at xs i (Some x) h = sym (slice_get_read xs (length xs) i x.now refl h.3.0 h.1)
+
+-- the instruction of a number in the table, by what the table is made of
+pub same_instr : (k j a b c line line' : ℕ) (p p' q q' : ℤ) (m m' n n' : ℕ) → k ≡ j → line ≡ line' → p ≡ p' → q ≡ q' → m ≡ m' → n ≡ n'
+    → slice_get (instrs a b c line p q m n) k ≡ slice_get (instrs a b c line' p' q' m' n') j
+same_instr k j a b c line line' p p' q q' m m' n n' ek el ep eq em en =
+    subst (λ i. slice_get (instrs a b c line p q m n) k ≡ slice_get (instrs a b c line' p' q' m' n') i) ek
+    (subst (λ (y : ℤ). slice_get (instrs a b c line p q m n) k ≡ slice_get (instrs a b c line' y q' m' n') k) ep
+    (subst (λ (y : ℤ). slice_get (instrs a b c line p q m n) k ≡ slice_get (instrs a b c line' p y m' n') k) eq
+    (subst (λ i. slice_get (instrs a b c line p q m n) k ≡ slice_get (instrs a b c i p q m' n') k) el
+    (subst (λ i. slice_get (instrs a b c line p q m n) k ≡ slice_get (instrs a b c line p q i n') k) em
+    (subst (λ i. slice_get (instrs a b c line p q m n) k ≡ slice_get (instrs a b c line p q m i) k) en refl)))))
 
 -- ---- a record that keeps to its layout
 pub or_place-parts : (a b : Option ℕ) → or_place a b ≡ None → (a ≡ None) × (b ≡ None)

@@ -45,98 +45,6 @@ const A_B: Layout = Layout { b: Whole, ..A };
 
 const A_B_C: Layout = Layout { c: Whole, ..A_B };
 
-/// The layouts of the instructions by their numbers.
-const LAYOUTS: [Layout; 24] = [
-    // HALT
-    NOTHING,
-    // LDI
-    Layout { p: Whole, ..A },
-    // LD
-    Layout { p: Natural, ..A },
-    // ST
-    Layout { p: Natural, ..A },
-    // LDX
-    Layout {
-        line: Whole,
-        p: Natural,
-        q: Natural,
-        ..A_B
-    },
-    // STX
-    Layout {
-        line: Whole,
-        p: Natural,
-        q: Natural,
-        ..A_B
-    },
-    // MOV
-    A_B,
-    // ADD
-    A_B_C,
-    // SUB
-    A_B_C,
-    // MUL
-    A_B_C,
-    // NEG
-    A_B,
-    // MAC
-    A_B_C,
-    // DIV
-    Layout {
-        line: Whole,
-        ..A_B_C
-    },
-    // MOD
-    Layout {
-        line: Whole,
-        ..A_B_C
-    },
-    // SCL
-    Layout { p: Natural, ..A_B },
-    // JMP
-    Layout {
-        p: Natural,
-        ..NOTHING
-    },
-    // BLT
-    Layout { p: Natural, ..A_B },
-    // BEQ
-    Layout { p: Natural, ..A_B },
-    // CHK
-    Layout {
-        line: Whole,
-        p: Whole,
-        q: Whole,
-        ..A
-    },
-    // IN
-    Layout {
-        line: Whole,
-        p: Whole,
-        q: Whole,
-        ..A
-    },
-    // OUT
-    A,
-    // CALL
-    Layout {
-        line: Whole,
-        p: Natural,
-        ..NOTHING
-    },
-    // RET
-    Layout {
-        line: Whole,
-        ..NOTHING
-    },
-    // TRP
-    Layout {
-        line: Whole,
-        p: Natural,
-        ..NOTHING
-    },
-];
-
 impl Layout {
     ghost use Rattle.object_bytes.specs.Layout.{layout_fault, layouts};
 
@@ -145,7 +53,96 @@ impl Layout {
         requires { number < 24 }
         ensures { slice_get layouts number ≡ Some result }
     {
-        LAYOUTS[usize::from(number)]
+        match number {
+            // HALT
+            0 => NOTHING,
+            // LDI
+            1 => Layout { p: Whole, ..A },
+            // LD
+            2 => Layout { p: Natural, ..A },
+            // ST
+            3 => Layout { p: Natural, ..A },
+            // LDX
+            4 => Layout {
+                line: Whole,
+                p: Natural,
+                q: Natural,
+                ..A_B
+            },
+            // STX
+            5 => Layout {
+                line: Whole,
+                p: Natural,
+                q: Natural,
+                ..A_B
+            },
+            // MOV
+            6 => A_B,
+            // ADD
+            7 => A_B_C,
+            // SUB
+            8 => A_B_C,
+            // MUL
+            9 => A_B_C,
+            // NEG
+            10 => A_B,
+            // MAC
+            11 => A_B_C,
+            // DIV
+            12 => Layout {
+                line: Whole,
+                ..A_B_C
+            },
+            // MOD
+            13 => Layout {
+                line: Whole,
+                ..A_B_C
+            },
+            // SCL
+            14 => Layout { p: Natural, ..A_B },
+            // JMP
+            15 => Layout {
+                p: Natural,
+                ..NOTHING
+            },
+            // BLT
+            16 => Layout { p: Natural, ..A_B },
+            // BEQ
+            17 => Layout { p: Natural, ..A_B },
+            // CHK
+            18 => Layout {
+                line: Whole,
+                p: Whole,
+                q: Whole,
+                ..A
+            },
+            // IN
+            19 => Layout {
+                line: Whole,
+                p: Whole,
+                q: Whole,
+                ..A
+            },
+            // OUT
+            20 => A,
+            // CALL
+            21 => Layout {
+                line: Whole,
+                p: Natural,
+                ..NOTHING
+            },
+            // RET
+            22 => Layout {
+                line: Whole,
+                ..NOTHING
+            },
+            // TRP
+            _ => Layout {
+                line: Whole,
+                p: Natural,
+                ..NOTHING
+            },
+        }
     }
 
     /// Whether a record that begins at a place keeps to the layout; or else the first place that doesn't.

@@ -24,7 +24,7 @@ pub fn read_record(bytes: &[u8], place: usize) -> Result<Instr, usize>
     }
 }
 
-/// The instruction of a record, where there is one of its number.
+/// The instruction of a record, where there is one of its number: one of a table of them all.
 #[tactic(auto, unfolding(crate::specs::Record::instr_in))]
 fn instr_of(bytes: &[u8]) -> Option<Instr>
     requires { length bytes.now ≡ 40 }
@@ -40,53 +40,53 @@ fn instr_of(bytes: &[u8]) -> Option<Instr>
     // p and q of an instruction that wants natural numbers there
     let m = natural_at(bytes, 20);
     let n = natural_at(bytes, 36);
-    match bytes[0] {
-        0 => Some(Instr::Halt),
-        1 => Some(Instr::Ldi { a, value: p }),
-        2 => Some(Instr::Ld { a, address: m }),
-        3 => Some(Instr::St { a, address: m }),
-        4 => Some(Instr::Ldx {
+    let instrs = [
+        Instr::Halt,
+        Instr::Ldi { a, value: p },
+        Instr::Ld { a, address: m },
+        Instr::St { a, address: m },
+        Instr::Ldx {
             a,
             b,
             address: m,
             length: n,
             line,
-        }),
-        5 => Some(Instr::Stx {
+        },
+        Instr::Stx {
             a,
             b,
             address: m,
             length: n,
             line,
-        }),
-        6 => Some(Instr::Mov { a, b }),
-        7 => Some(Instr::Add { a, b, c }),
-        8 => Some(Instr::Sub { a, b, c }),
-        9 => Some(Instr::Mul { a, b, c }),
-        10 => Some(Instr::Neg { a, b }),
-        11 => Some(Instr::Mac { a, b, c }),
-        12 => Some(Instr::Div { a, b, c, line }),
-        13 => Some(Instr::Mod { a, b, c, line }),
-        14 => Some(Instr::Scl { a, b, channel: m }),
-        15 => Some(Instr::Jmp { target: m }),
-        16 => Some(Instr::Blt { a, b, target: m }),
-        17 => Some(Instr::Beq { a, b, target: m }),
-        18 => Some(Instr::Chk {
+        },
+        Instr::Mov { a, b },
+        Instr::Add { a, b, c },
+        Instr::Sub { a, b, c },
+        Instr::Mul { a, b, c },
+        Instr::Neg { a, b },
+        Instr::Mac { a, b, c },
+        Instr::Div { a, b, c, line },
+        Instr::Mod { a, b, c, line },
+        Instr::Scl { a, b, channel: m },
+        Instr::Jmp { target: m },
+        Instr::Blt { a, b, target: m },
+        Instr::Beq { a, b, target: m },
+        Instr::Chk {
             a,
             low: p,
             high: q,
             line,
-        }),
-        19 => Some(Instr::In {
+        },
+        Instr::In {
             a,
             low: p,
             high: q,
             line,
-        }),
-        20 => Some(Instr::Out { a }),
-        21 => Some(Instr::Call { target: m, line }),
-        22 => Some(Instr::Ret { line }),
-        23 => Some(Instr::Trp { kind: m, line }),
-        _ => None,
-    }
+        },
+        Instr::Out { a },
+        Instr::Call { target: m, line },
+        Instr::Ret { line },
+        Instr::Trp { kind: m, line },
+    ];
+    instrs.get(usize::from(bytes[0])).copied()
 }

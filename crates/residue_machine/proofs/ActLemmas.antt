@@ -1,6 +1,6 @@
 -- How acts are performed: one operation or Show, and then the acts that follow.
-use Rattle.std.proofs.Common.{◌≡◌, ℕ, ◌+◌, ℤ, Bool, true, false, List, [], ◌∷◌, Option, None, Some, cond, refl, sym, ap, ◌∙◌, subst, arith}
-use Rattle.std.specs.Prelude.{IsSome, is_some, not, unsigned_abs, int_le, ◌&&◌}
+use Rattle.std.proofs.Common.{◌≡◌, ℕ, ◌+◌, ℤ, Bool, true, false, List, [], ◌∷◌, Option, None, Some, cond, refl, sym, ap, subst, arith}
+use Rattle.std.specs.Prelude.{IsSome, is_some, not, unsigned_abs}
 use Rattle.std.specs.Option.{option_map_or}
 use Rattle.moduli_sets.specs.Set.{ModuliSet}
 use Rattle.moduli_sets.specs.declared.kind.Kind.{Kind}
@@ -9,45 +9,29 @@ use Rattle.channel_alu.specs.declared.operation.Place.{Place}
 use Rattle.channel_alu.specs.declared.operation.Place.TheVariants.{Reg, Word}
 use Rattle.channel_alu.specs.declared.operation.MicroOp.{MicroOp}
 use Rattle.channel_alu.specs.declared.operation.MicroOp.TheVariants.{Show}
-use Rattle.fault_book.specs.Book.{Book}
-use Rattle.channel_lane.specs.Lane.{LaneState}
 use Rattle.lane_bank.specs.Bank.{lanes_after}
-use Rattle.machine_table.specs.Control.{Control, next, at_place, halts, traps, lies_in}
+use Rattle.machine_table.specs.Control.{Control, next, at_place, halts, traps}
 use Rattle.channel_scheduler.specs.declared.rack.Rack.{Ghosts as RackGhosts}
 use Rattle.machine_table.specs.Integers.{is_index}
-use Rattle.micro_plan.specs.ActTree.{Acts, issue, ask, print, go_on, end_by}
+use Rattle.micro_plan.specs.ActTree.{Acts, issue, ask, go_on, end_by}
 use Rattle.micro_plan.specs.Acts.{element_acts, issues}
-use Rattle.shown_run.specs.Decoded.{nearest}
 use Rattle.shown_run.specs.Trace.{Trace, did, showed, damaged, corrections_of, ending_of, is_corrected, operations_of}
 use Rattle.shown_run.specs.Runs.{shown}
 use Rattle.residue_machine.specs.declared.channels.Told.TheVariants.{Integer, Bad}
 use Rattle.residue_machine.specs.declared.outcome.Outcome.{Outcome}
-use Rattle.residue_machine.specs.declared.outcome.Outcome.TheVariants.{Next, To, Print, Halt, Trap, Damage}
+use Rattle.residue_machine.specs.declared.outcome.Outcome.TheVariants.{Next, To, End}
+use Rattle.residue_machine.specs.declared.ending.Ended.TheVariants as ended
 use Rattle.residue_machine.specs.Bench.{Bench, IsTold, Performed, column_at}
 use Rattle.residue_machine.specs.Machine.{decoding_of}
 use Rattle.residue_machine.specs.Outcomes.{Came, ComesTo, GoesOn, ending_by, trace_of}
-use Rattle.residue_machine.proofs.BenchLemmas.{Performed-none, Performed-then}
+use Rattle.residue_machine.proofs.BenchLemmas.{Performed-none, Performed-same, Performed-then}
 
 -- an operation that writes shows nothing
 pub is_silent : (o : Option Place) → IsSome o → not (is_some o) ≡ false
 is_silent None h = sym h
 is_silent (Some to) h = refl
 
--- an integer that is below an interval, and one that is above it
-pub lies_below : (low high x : ℤ) → int_le low x ≡ false → lies_in low high x ≡ false
-lies_below low high x e = ap (λ t. t && int_le x high) e
-
-pub lies_above : (low high x : ℤ) → int_le low x ≡ true → int_le x high ≡ false → lies_in low high x ≡ false
-lies_above low high x e f = ap (λ t. t && int_le x high) e ∙ f
-
 module _ {R D : Type 0} (racks : RackGhosts R) (reach : ModuliSet → ℕ) (gone : Option ℕ) where
-  -- what is shown of acts, from the lanes that the channels have come to
-  same_trace : (acts : Acts) (old mid : Bench R D) (lanes : List LaneState) → mid.set ≡ old.set → racks.book_of mid.rack ≡ racks.book_of old.rack → racks.lanes_of mid.rack ≡ lanes → trace_of racks reach gone acts mid ≡ shown (decoding_of racks reach gone old) (racks.book_of old.rack) acts lanes
-  same_trace acts old mid lanes set book same =
-      ap (λ (s : ModuliSet). shown (nearest (reach s) gone s) (racks.book_of mid.rack) acts (racks.lanes_of mid.rack)) set
-      ∙ ap (λ (k : Book). shown (decoding_of racks reach gone old) k acts (racks.lanes_of mid.rack)) book
-      ∙ ap (λ (ls : List LaneState). shown (decoding_of racks reach gone old) (racks.book_of old.rack) acts ls) same
-
   -- ---- traces
   came-did : (op : MicroOp) (t : Trace) (control : Control) (old mid new : Bench R D) (outcome : Outcome) → Performed racks racks.IsUnderWay (op ∷ []) (λ i. 0) old mid → Came racks reach gone t mid.issued control mid outcome new → Came racks reach gone (did op t) old.issued control old outcome new
   came-did op t control old mid new outcome first rest = record {
@@ -73,7 +57,7 @@ module _ {R D : Type 0} (racks : RackGhosts R) (reach : ModuliSet → ℕ) (gone
   pub comes-issue : (op : MicroOp) (acts : Acts) (control : Control) (old mid new : Bench R D) (outcome : Outcome) → Performed racks racks.IsUnderWay (op ∷ []) (λ i. 0) old mid → ComesTo racks reach gone acts control mid outcome new → ComesTo racks reach gone (issue op acts) control old outcome new
   comes-issue op acts control old mid new outcome first rest =
       subst (λ (t : Trace). Came racks reach gone (did op t) old.issued control old outcome new)
-      (same_trace acts old mid (lanes_after (racks.book_of old.rack) op (racks.lanes_of old.rack)) first.set first.book first.lanes)
+      (Performed-same racks reach gone (λ decode book set code lanes. shown decode book acts lanes) old mid first)
       (came-did op (trace_of racks reach gone acts mid) control old mid new outcome first rest)
 
   pub comes-ask : (place : Place) (acts : ℤ → Acts) (x : ℤ) (control : Control) (old mid new : Bench R D) (outcome : Outcome) → IsTold racks reach gone place old (Integer x) mid → ComesTo racks reach gone (acts x) control mid outcome new → ComesTo racks reach gone (ask place acts) control old outcome new
@@ -82,18 +66,18 @@ module _ {R D : Type 0} (racks : RackGhosts R) (reach : ModuliSet → ℕ) (gone
       let f : ℤ → Trace = λ y. showed place column y (shown (decoding_of racks reach gone old) (racks.book_of old.rack) (acts y) (lanes_after (racks.book_of old.rack) (Show place) (racks.lanes_of old.rack))) in
       subst (λ (o : Option ℤ). Came racks reach gone (option_map_or f o (damaged place column)) old.issued control old outcome new) (sym told.0)
       (subst (λ (t : Trace). Came racks reach gone (showed place column x t) old.issued control old outcome new)
-      (same_trace (acts x) old mid (lanes_after (racks.book_of old.rack) (Show place) (racks.lanes_of old.rack)) told.1.set told.1.book told.1.lanes)
+      (Performed-same racks reach gone (λ decode book set code lanes. shown decode book (acts x) lanes) old mid told.1)
       (came-showed place column x (trace_of racks reach gone (acts x) mid) control old mid new outcome told.1 rest))
 
-  pub comes-bad : (place : Place) (acts : ℤ → Acts) (column : List ℕ) (n : ℕ) (control : Control) (old new : Bench R D) → IsTold racks reach gone place old (Bad column) new → n ≡ old.issued → ComesTo racks reach gone (ask place acts) control old (Damage n column) new
+  pub comes-bad : (place : Place) (acts : ℤ → Acts) (column : List ℕ) (n : ℕ) (control : Control) (old new : Bench R D) → IsTold racks reach gone place old (Bad column) new → n ≡ old.issued → ComesTo racks reach gone (ask place acts) control old (End (ended.Damage n column)) new
   comes-bad place acts column n control old new told at =
       let here = column_at racks place old in
       let f : ℤ → Trace = λ y. showed place here y (shown (decoding_of racks reach gone old) (racks.book_of old.rack) (acts y) (lanes_after (racks.book_of old.rack) (Show place) (racks.lanes_of old.rack))) in
-      let whole : Came racks reach gone (damaged place here) old.issued control old (Damage old.issued here) new =
+      let whole : Came racks reach gone (damaged place here) old.issued control old (End (ended.Damage old.issued here)) new =
       record { channels = told.2; control_is = refl; prints = refl; ending = refl } in
-      subst (λ (m : ℕ). ComesTo racks reach gone (ask place acts) control old (Damage m column) new) (sym at)
-      (subst (λ (v : List ℕ). ComesTo racks reach gone (ask place acts) control old (Damage old.issued v) new) (sym told.1)
-      (subst (λ (o : Option ℤ). Came racks reach gone (option_map_or f o (damaged place here)) old.issued control old (Damage old.issued here) new) (sym told.0) whole))
+      subst (λ (m : ℕ). ComesTo racks reach gone (ask place acts) control old (End (ended.Damage m column)) new) (sym at)
+      (subst (λ (v : List ℕ). ComesTo racks reach gone (ask place acts) control old (End (ended.Damage old.issued v)) new) (sym told.1)
+      (subst (λ (o : Option ℤ). Came racks reach gone (option_map_or f o (damaged place here)) old.issued control old (End (ended.Damage old.issued here)) new) (sym told.0) whole))
 
   pub comes-next : (control : Control) (b : Bench R D) → ComesTo racks reach gone (go_on (next control)) control b Next b
   comes-next control b = record { channels = Performed-none racks b; control_is = refl; prints = refl; ending = refl }
@@ -101,13 +85,10 @@ module _ {R D : Type 0} (racks : RackGhosts R) (reach : ModuliSet → ℕ) (gone
   pub comes-to : (target : ℕ) (control : Control) (b : Bench R D) → ComesTo racks reach gone (go_on (at_place target control)) control b (To target) b
   comes-to target control b = record { channels = Performed-none racks b; control_is = refl; prints = refl; ending = refl }
 
-  pub comes-print : (x : ℤ) (control : Control) (b : Bench R D) → ComesTo racks reach gone (print x (go_on (next control))) control b (Print x) b
-  comes-print x control b = record { channels = Performed-none racks b; control_is = refl; prints = refl; ending = refl }
-
-  pub comes-halt : (control : Control) (b : Bench R D) → ComesTo racks reach gone (end_by halts) control b Halt b
+  pub comes-halt : (control : Control) (b : Bench R D) → ComesTo racks reach gone (end_by halts) control b (End ended.Halt) b
   comes-halt control b = record { channels = Performed-none racks b; control_is = refl; prints = refl; ending = refl }
 
-  pub comes-trap : (kind : Kind) (line : ℕ) (control : Control) (b : Bench R D) → ComesTo racks reach gone (end_by (traps kind line)) control b (Trap kind line) b
+  pub comes-trap : (kind : Kind) (line : ℕ) (control : Control) (b : Bench R D) → ComesTo racks reach gone (end_by (traps kind line)) control b (End (ended.Trap kind line)) b
   comes-trap kind line control b = record { channels = Performed-none racks b; control_is = refl; prints = refl; ending = refl }
 
   -- ---- integers of registers
@@ -122,12 +103,6 @@ module _ {R D : Type 0} (racks : RackGhosts R) (reach : ModuliSet → ℕ) (gone
       comes-ask (Reg b) (λ z. cond (is_index q z) (issues (copy (Word (p + unsigned_abs z))) control) (end_by (traps Index line))) x control old new last outcome told
       (subst (λ (t : Bool). ComesTo racks reach gone (cond t (issues (copy (Word (p + unsigned_abs x))) control) (end_by (traps Index line))) control new outcome last) (sym inside)
       (subst (λ (w : ℕ). ComesTo racks reach gone (issues (copy (Word w)) control) control new outcome last) at rest))
-
-  pub no-element : (copy : Place → MicroOp) (b p q line : ℕ) (x : ℤ) (control : Control) (old new : Bench R D) → IsTold racks reach gone (Reg b) old (Integer x) new → is_index q x ≡ false → ComesTo racks reach gone (element_acts copy b p q line control) control old (Trap Index line) new
-  no-element copy b p q line x control old new told outside =
-      comes-ask (Reg b) (λ z. cond (is_index q z) (issues (copy (Word (p + unsigned_abs z))) control) (end_by (traps Index line))) x control old new new (Trap Index line) told
-      (subst (λ (t : Bool). ComesTo racks reach gone (cond t (issues (copy (Word (p + unsigned_abs x))) control) (end_by (traps Index line))) control new (Trap Index line) new) (sym outside)
-      (comes-trap Index line control new))
 
   -- an outcome by which control goes on somewhere
   pub comes-went : (outcome : Outcome) (control after : Control) (b : Bench R D) → GoesOn outcome control after → ComesTo racks reach gone (go_on after) control b outcome b

@@ -18,8 +18,10 @@ use Rattle.redundant_decoder.proofs.VerdictLemmas.{length-vector, same_nearest, 
 use Rattle.channel_alu.specs.declared.operation.Place.{Place}
 use Rattle.channel_alu.specs.declared.operation.MicroOp.{MicroOp}
 use Rattle.channel_alu.specs.declared.operation.MicroOp.TheVariants.{Show}
+use Rattle.fault_book.specs.Book.{Book}
 use Rattle.channel_lane.specs.Meaning.{CanPerform}
 use Rattle.channel_lane.specs.Lane.{LaneState}
+use Rattle.machine_table.specs.declared.instr.Instr.{Instr}
 use Rattle.lane_bank.specs.Bank.{AllCanPerform, column_of, lanes_after, lanes_after_all, lanes_at_start}
 use Rattle.lane_bank.proofs.BankLemmas.{AreResidues-column, CanPerform-lanes, answers-lanes, lanes_after_all-more, lanes_after_all-none, lanes_after_all-parts}
 use Rattle.channel_scheduler.specs.Rack.{HasRoom}
@@ -27,8 +29,10 @@ use Rattle.channel_scheduler.specs.declared.rack.Rack.{Ghosts as RackGhosts}
 use Rattle.redundant_decoder.specs.declared.decoder.Decoder.{Ghosts as DecoderGhosts}
 use Rattle.shown_run.specs.Decoded.{nearest}
 use Rattle.shown_run.specs.Trace.{is_among, is_corrected}
+use Rattle.shown_run.specs.Runs.{Decoding}
 use Rattle.shown_run.proofs.NearestLemmas.{IsNearest-nearest}
-use Rattle.residue_machine.specs.Bench.{Bench, HasCome, HasSettled, IsBench, IsTold, Performed, column_at}
+use Rattle.residue_machine.specs.Machine.{decoding_of}
+use Rattle.residue_machine.specs.Bench.{Bench, HasCome, HasShown, IsBench, IsTold, Performed, column_at}
 use Rattle.residue_machine.specs.declared.channels.Told.TheVariants.{Integer, Bad}
 
 -- ---- the nearest integer of a column
@@ -44,7 +48,7 @@ pub nearest-some : (set : ModuliSet) (v : List ℕ) (x : ℤ) → IsModuliSet se
 nearest-some set v x rules residues is =
     some_is (radius set) None set v x (nearest (radius set) None set v) rules residues (omega arith) is (IsNearest-nearest (radius set) None set v)
 
-pub nearest-none : (set : ModuliSet) (v : List ℕ) → IsNearest (radius set) None set v None → nearest (radius set) None set v ≡ None
+nearest-none : (set : ModuliSet) (v : List ℕ) → IsNearest (radius set) None set v None → nearest (radius set) None set v ≡ None
 nearest-none set v is = none_is (radius set) None set v (nearest (radius set) None set v) is (IsNearest-nearest (radius set) None set v)
 
 -- ---- what a column corrects
@@ -64,7 +68,7 @@ is_alone i k ps e = ap (is_among i) e ∙ or_no (i == k) where
   or_no false = refl
 
 -- the channel that is corrected is one of the set
-pub corrected_in : (set : ModuliSet) (t : ℕ) (v : List ℕ) (x : ℤ) (k : ℕ) → AreResidues set.moduli v → IsCorrection t None set v x k → k < length set.moduli
+corrected_in : (set : ModuliSet) (t : ℕ) (v : List ℕ) (x : ℤ) (k : ℕ) → AreResidues set.moduli v → IsCorrection t None set v x k → k < length set.moduli
 corrected_in set t v x k residues correction =
     let w = vector_of set.moduli x in
     let among : Contains (different_places None w v) k = subst (λ ps. Contains ps k) (sym correction.places) (0, omega arith, refl) in
@@ -106,19 +110,18 @@ module _ {R D : Type 0} (racks : RackGhosts R) where
       (All-weaker (λ lane. lane.answers ≡ length come.ops) (λ lane. lane.answers < 10 ^ 18) (λ lane e. omega (arith, e, count, h)) lanes
       (answers-lanes (racks.book_of b.rack) b.set 0 b.start come.ops))
 
-  pub residues : (b : Bench R D) (place : Place) → IsModuliSet b.set → HasCome racks b → AreResidues b.set.moduli (column_at racks place b)
+  residues : (b : Bench R D) (place : Place) → IsModuliSet b.set → HasCome racks b → AreResidues b.set.moduli (column_at racks place b)
   residues b place rules come =
       subst (λ lanes. AreResidues b.set.moduli (column_of (racks.book_of b.rack) place lanes)) (sym come.lanes)
       (AreResidues-column (racks.book_of b.rack) b.set b.start come.ops (Show place) rules)
 
   -- ---- an operation more
   -- the channels after it
-  abbrev pub bench_with : R → List ℕ → Bench R D → Bench R D
-  bench_with rack corrections b =
-      record { set = b.set; code = b.code; start = b.start; rack = rack; decoder = b.decoder; issued = b.issued + 1; corrections = corrections }
+  abbrev pub bench_with : R → Bench R D → Bench R D
+  bench_with rack b = record b { rack = rack; issued = b.issued + 1 }
 
-  come_more : (b : Bench R D) (op : MicroOp) (rack : R) (corrections : List ℕ) → HasDone racks op b.rack rack → HasCome racks b → HasCome racks (bench_with rack corrections b)
-  come_more b op rack corrections done come =
+  come_more : (b : Bench R D) (op : MicroOp) (rack : R) → HasDone racks op b.rack rack → HasCome racks b → HasCome racks (bench_with rack b)
+  come_more b op rack done come =
       let start = lanes_at_start b.set 0 b.start in
       let count = come.count in
       record {
@@ -128,28 +131,18 @@ module _ {R D : Type 0} (racks : RackGhosts R) where
             ∙ ap (λ book. lanes_after_all book (come.ops ++ op ∷ []) start) (sym done.book);
       }
 
-  pub IsBench-more : (decoders : DecoderGhosts D) (b : Bench R D) (op : MicroOp) (rack : R) (corrections : List ℕ) → HasDone racks op b.rack rack → IsBench racks decoders b → length corrections ≡ length b.corrections → All (λ n. n ≤ b.issued + 1) corrections → IsBench racks decoders (bench_with rack corrections b)
-  IsBench-more decoders b op rack corrections done is long few = record {
+  pub IsBench-more : (decoders : DecoderGhosts D) (b : Bench R D) (op : MicroOp) (rack : R) → HasDone racks op b.rack rack → IsBench racks decoders b → IsBench racks decoders (bench_with rack b)
+  IsBench-more decoders b op rack done is = record {
     rules = is.rules;
     sound = is.sound;
     decodes = is.decodes;
-    come = come_more b op rack corrections done is.come;
-    counts = long ∙ is.counts;
-    few = few;
+    come = come_more b op rack done is.come;
+    counts = is.counts;
+    few = All-weaker (λ n. n ≤ b.issued) (λ n. n ≤ b.issued + 1) (λ n h. omega arith) b.corrections is.few;
   }
 
-  -- the counts are no more than the operations
-  pub few_same : (decoders : DecoderGhosts D) (b : Bench R D) → IsBench racks decoders b → All (λ n. n ≤ b.issued + 1) b.corrections
-  few_same decoders b is = All-weaker (λ n. n ≤ b.issued) (λ n. n ≤ b.issued + 1) (λ n h. omega arith) b.corrections is.few
-
-  pub few_more : (decoders : DecoderGhosts D) (b : Bench R D) (i : ℕ) → IsBench racks decoders b → i < length b.corrections → All (λ n. n ≤ b.issued + 1) (set_at b.corrections i (slice_index b.corrections i + 1))
-  few_more decoders b i is h =
-      let here : slice_index b.corrections i ≤ b.issued = All-get_or (λ n. n ≤ b.issued) b.corrections i 0 h is.few in
-      All-set (λ n. n ≤ b.issued + 1) b.corrections i (slice_index b.corrections i + 1) (omega (arith, here)) (few_same decoders b is)
-
-  -- one operation, with the counts that it leaves
-  pub Performed-one : (b : Bench R D) (op : MicroOp) (rack : R) (corrections : List ℕ) (corrected : ℕ → ℕ) → HasDone racks op b.rack rack → length corrections ≡ length b.corrections → ((i : ℕ) → i < length b.corrections → slice_index corrections i ≡ slice_index b.corrections i + corrected i) → Performed racks racks.IsUnderWay (op ∷ []) corrected b (bench_with rack corrections b)
-  Performed-one b op rack corrections corrected done long each = record {
+  Performed-issue : (b : Bench R D) (op : MicroOp) (rack : R) → HasDone racks op b.rack rack → Performed racks racks.IsUnderWay (op ∷ []) (λ i. 0) b (bench_with rack b)
+  Performed-issue b op rack done = record {
     set = refl;
     code = refl;
     start = refl;
@@ -159,13 +152,38 @@ module _ {R D : Type 0} (racks : RackGhosts R) where
     lanes = lanes_after_all-more (racks.book_of b.rack) [] op (racks.lanes_of b.rack) (racks.lanes_of b.rack) (racks.lanes_of rack)
         (sym (lanes_after_all-none (racks.book_of b.rack) (racks.lanes_of b.rack))) done.lanes;
     issued = refl;
-    counts = long;
-    corrections = each;
+    counts = refl;
+    corrections = λ i h. omega arith;
     run = done.run;
   }
 
-  pub Performed-issue : (b : Bench R D) (op : MicroOp) (rack : R) → HasDone racks op b.rack rack → Performed racks racks.IsUnderWay (op ∷ []) (λ i. 0) b (bench_with rack b.corrections b)
-  Performed-issue b op rack done = Performed-one b op rack b.corrections (λ i. 0) done refl (λ i h. omega arith)
+  pub shown-one : (decoders : DecoderGhosts D) (b : Bench R D) (place : Place) (rack : R) (column : List ℕ) → HasDone racks (Show place) b.rack rack → column ≡ column_at racks place b → IsBench racks decoders b → HasShown racks place b column (bench_with rack b)
+  shown-one decoders b place rack column done e is = record {
+    is_column = e;
+    residues = subst (AreResidues b.set.moduli) (sym e) (residues b place is.rules is.come);
+    few = All-weaker (λ n. n ≤ b.issued) (λ n. n < b.issued + 1) (λ n h. omega arith) b.corrections is.few;
+    performed = Performed-issue b (Show place) rack done;
+  }
+
+  -- operations in which columns were corrected, where nothing was counted before
+  Performed-counted : (ops : List MicroOp) (corrected : ℕ → ℕ) (counts : List ℕ) (old mid : Bench R D) → Performed racks racks.IsUnderWay ops (λ i. 0) old mid → length counts ≡ length mid.corrections → ((i : ℕ) → i < length mid.corrections → slice_index counts i ≡ slice_index mid.corrections i + corrected i) → Performed racks racks.IsUnderWay ops corrected old (record mid { corrections = counts })
+  Performed-counted ops corrected counts old mid h long each = record {
+    set = h.set;
+    code = h.code;
+    start = h.start;
+    decoder = h.decoder;
+    book = h.book;
+    plan = h.plan;
+    lanes = h.lanes;
+    issued = h.issued;
+    counts = long ∙ h.counts;
+    corrections = λ i inside.
+        let same = h.counts in
+        let before = h.corrections i inside in
+        let after = each i (omega (arith, inside, same)) in
+        omega (arith, before, after);
+    run = h.run;
+  }
 
   -- ---- operations, and then others
   pub Performed-none : (b : Bench R D) → Performed racks racks.IsUnderWay [] (λ i. 0) b b
@@ -212,68 +230,71 @@ module _ {R D : Type 0} (racks : RackGhosts R) where
             subst (After new.rack start) (append_assoc before ops more) (then.run start (before ++ ops) (first.run start before way));
       }
 
-  -- a rack that settles ends what it was under way with
-  pub Performed-settled : (ops : List MicroOp) (c : ℕ → ℕ) (old mid new : Bench R D) → HasSettled racks mid new → Performed racks racks.IsUnderWay ops c old mid → Performed racks racks.HasEnded ops c old new
-  Performed-settled ops c old mid new settled h =
-      let moved : Performed racks racks.HasEnded ops c old (record mid { rack = new.rack }) = record {
-        set = h.set;
-        code = h.code;
-        start = h.start;
-        decoder = h.decoder;
-        book = settled.book ∙ h.book;
-        plan = settled.plan ∙ h.plan;
-        lanes = settled.lanes ∙ h.lanes;
-        issued = h.issued;
-        counts = h.counts;
-        corrections = h.corrections;
-        run = λ start before way. settled.run start (before ++ ops) (h.run start before way);
-      } in
-      subst (λ (b : Bench R D). Performed racks racks.HasEnded ops c old b) (sym settled.rack) moved
+  -- what is said of a rest, from the channels that operations have left
+  pub Performed-same : (reach : ModuliSet → ℕ) (gone : Option ℕ) {A : Type 0} {After : R → List LaneState → List MicroOp → Type 0} {ops : List MicroOp} {c : ℕ → ℕ} (f : Decoding → Book → ModuliSet → List Instr → List LaneState → A) (old mid : Bench R D) → Performed racks After ops c old mid → f (decoding_of racks reach gone mid) (racks.book_of mid.rack) mid.set mid.code (racks.lanes_of mid.rack) ≡ f (decoding_of racks reach gone old) (racks.book_of old.rack) old.set old.code (lanes_after_all (racks.book_of old.rack) ops (racks.lanes_of old.rack))
+  Performed-same reach gone f old mid h =
+      ap (λ (s : ModuliSet). f (nearest (reach s) gone s) (racks.book_of mid.rack) s mid.code (racks.lanes_of mid.rack)) h.set
+      ∙ ap (λ (code : List Instr). f (decoding_of racks reach gone old) (racks.book_of mid.rack) old.set code (racks.lanes_of mid.rack)) h.code
+      ∙ ap (λ (book : Book). f (decoding_of racks reach gone old) book old.set old.code (racks.lanes_of mid.rack)) h.book
+      ∙ ap (f (decoding_of racks reach gone old) (racks.book_of old.rack) old.set old.code) h.lanes
 
   -- ---- what is told of a column
-  module _ (decoders : DecoderGhosts D) (b : Bench R D) (place : Place) (column : List ℕ) (is : IsBench racks decoders b) (e : column ≡ column_at racks place b) where
-    -- the decoder is one of the set, and the column is one of its residues
-    verdict_of : (verdict : Verdict) → IsVerdict (radius (decoders.set b.decoder)) None (decoders.set b.decoder) column verdict → IsVerdict (radius b.set) None b.set (column_at racks place b) verdict
-    verdict_of verdict h =
-        subst (λ (v : List ℕ). IsVerdict (radius b.set) None b.set v verdict) e
-        (subst (λ (t : ModuliSet). IsVerdict (radius t) None t column verdict) is.decodes h)
-
+  -- the channels before they showed a place, and after it
+  module _ (decoders : DecoderGhosts D) (old b : Bench R D) (place : Place) (column : List ℕ) (shown : HasShown racks place old column b) (is : IsBench racks decoders b) where
     pub decodable : AreResidues (decoders.set b.decoder).moduli column
-    decodable =
-        subst (λ (t : ModuliSet). AreResidues t.moduli column) (sym is.decodes)
-        (subst (AreResidues b.set.moduli) (sym e) (residues b place is.rules is.come))
+    decodable = subst (λ (t : ModuliSet). AreResidues t.moduli column) (sym is.decodes) shown.residues
 
-    pub told-clean : (x : ℤ) (rack : R) → HasDone racks (Show place) b.rack rack → IsVerdict (radius (decoders.set b.decoder)) None (decoders.set b.decoder) column (Clean x) → IsTold racks radius None place b (Integer x) (bench_with rack b.corrections b)
-    told-clean x rack done h =
-        let own = verdict_of (Clean x) h in (
-          nearest-some b.set (column_at racks place b) x is.rules (residues b place is.rules is.come) (IsNearest-clean b.set (radius b.set) None (column_at racks place b) x own.0 own.1),
-          Performed-one b (Show place) rack b.corrections (λ i. cond (is_corrected None b.set i (column_at racks place b) x) 1 0) done refl
-              (λ i _. sym (ap (λ t. slice_index b.corrections i + cond t 1 0) (not_corrected b.set (column_at racks place b) x i own.1) ∙ omega arith)),
+    -- the decoder is one of the set
+    verdict_of : (verdict : Verdict) → IsVerdict (radius (decoders.set b.decoder)) None (decoders.set b.decoder) column verdict → IsVerdict (radius b.set) None b.set column verdict
+    verdict_of verdict h = subst (λ (t : ModuliSet). IsVerdict (radius t) None t column verdict) is.decodes h
+
+    -- what is so of the set and the column
+    of_old : (Is : ModuliSet → List ℕ → Type 0) → Is b.set column → Is old.set (column_at racks place old)
+    of_old Is h = subst (Is old.set) shown.is_column (subst (λ (t : ModuliSet). Is t column) shown.performed.set h)
+
+    abbrev TellsOf : ℤ → Bench R D → ModuliSet → List ℕ → Type 0
+    TellsOf x new t v =
+        (nearest (radius t) None t v ≡ Some x) × Performed racks racks.IsUnderWay (Show place ∷ []) (λ i. cond (is_corrected None t i v x) 1 0) old new
+
+    pub told-clean : (x : ℤ) → IsVerdict (radius (decoders.set b.decoder)) None (decoders.set b.decoder) column (Clean x) → IsTold racks radius None place old (Integer x) b
+    told-clean x h =
+        let own = verdict_of (Clean x) h in
+        of_old (TellsOf x b) (
+          nearest-some b.set column x is.rules shown.residues (IsNearest-clean b.set (radius b.set) None column x own.0 own.1),
+          Performed-counted (Show place ∷ []) (λ i. cond (is_corrected None b.set i column x) 1 0) b.corrections old b shown.performed refl
+              (λ i _. sym (ap (λ t. slice_index b.corrections i + cond t 1 0) (not_corrected b.set column x i own.1) ∙ omega arith)),
         )
 
     -- the corrected channel has a count
     pub counted : (x : ℤ) (k : ℕ) → IsVerdict (radius (decoders.set b.decoder)) None (decoders.set b.decoder) column (Corrected x k) → k < length b.corrections
     counted x k h =
-        let own = corrected_in b.set (radius b.set) (column_at racks place b) x k (residues b place is.rules is.come) (verdict_of (Corrected x k) h) in
+        let own = corrected_in b.set (radius b.set) column x k shown.residues (verdict_of (Corrected x k) h) in
         let counts = is.counts in
         omega (arith, own, counts)
 
-    pub told-corrected : (x : ℤ) (k : ℕ) (rack : R) (counts : List ℕ) → HasDone racks (Show place) b.rack rack → IsVerdict (radius (decoders.set b.decoder)) None (decoders.set b.decoder) column (Corrected x k) → counts ≡ set_at b.corrections k (slice_index b.corrections k + 1) → IsTold racks radius None place b (Integer x) (bench_with rack counts b)
-    told-corrected x k rack counts done h more =
-        let shown = column_at racks place b in
-        let own = verdict_of (Corrected x k) h in (
-          nearest-some b.set shown x is.rules (residues b place is.rules is.come) own.nearest,
-          Performed-one b (Show place) rack counts (λ i. cond (is_corrected None b.set i shown x) 1 0) done (ap length more ∙ length-set b.corrections k (slice_index b.corrections k + 1))
+    pub told-corrected : (x : ℤ) (k : ℕ) (counts : List ℕ) → IsVerdict (radius (decoders.set b.decoder)) None (decoders.set b.decoder) column (Corrected x k) → counts ≡ set_at b.corrections k (slice_index b.corrections k + 1) → IsTold racks radius None place old (Integer x) (record b { corrections = counts })
+    told-corrected x k counts h more =
+        let own = verdict_of (Corrected x k) h in
+        of_old (TellsOf x (record b { corrections = counts })) (
+          nearest-some b.set column x is.rules shown.residues own.nearest,
+          Performed-counted (Show place ∷ []) (λ i. cond (is_corrected None b.set i column x) 1 0) counts old b shown.performed (ap length more ∙ length-set b.corrections k (slice_index b.corrections k + 1))
               (λ i _. ap (λ cs. slice_index cs i) more ∙ counted_more b.corrections k i (counted x k h)
-              ∙ ap (λ t. slice_index b.corrections i + cond t 1 0) (sym (is_alone i k (different_places None (vector_of b.set.moduli x) shown) own.places))),
+              ∙ ap (λ t. slice_index b.corrections i + cond t 1 0) (sym (is_alone i k (different_places None (vector_of b.set.moduli x) column) own.places))),
         )
 
     -- and the channels are channels after it
-    pub IsBench-corrected : (x : ℤ) (k : ℕ) (rack : R) (counts : List ℕ) → HasDone racks (Show place) b.rack rack → IsVerdict (radius (decoders.set b.decoder)) None (decoders.set b.decoder) column (Corrected x k) → counts ≡ set_at b.corrections k (slice_index b.corrections k + 1) → IsBench racks decoders (bench_with rack counts b)
-    IsBench-corrected x k rack counts done h more =
-        IsBench-more decoders b (Show place) rack counts done is (ap length more ∙ length-set b.corrections k (slice_index b.corrections k + 1))
-        (subst (All (λ n. n ≤ b.issued + 1)) (sym more) (few_more decoders b k is (counted x k h)))
+    pub IsBench-corrected : (x : ℤ) (k : ℕ) (counts : List ℕ) → IsVerdict (radius (decoders.set b.decoder)) None (decoders.set b.decoder) column (Corrected x k) → counts ≡ set_at b.corrections k (slice_index b.corrections k + 1) → IsBench racks decoders (record b { corrections = counts })
+    IsBench-corrected x k counts h more =
+        let inside = counted x k h in
+        let here : slice_index b.corrections k < b.issued = All-get_or (λ n. n < b.issued) b.corrections k 0 inside shown.few in
+        record {
+          rules = is.rules;
+          sound = is.sound;
+          decodes = is.decodes;
+          come = record { ops = is.come.ops; count = is.come.count; lanes = is.come.lanes };
+          counts = ap length more ∙ length-set b.corrections k (slice_index b.corrections k + 1) ∙ is.counts;
+          few = subst (All (λ n. n ≤ b.issued)) (sym more) (All-set (λ n. n ≤ b.issued) b.corrections k (slice_index b.corrections k + 1) (omega (arith, here)) is.few);
+        }
 
-    pub told-bad : (rack : R) → HasDone racks (Show place) b.rack rack → IsVerdict (radius (decoders.set b.decoder)) None (decoders.set b.decoder) column Damaged → IsTold racks radius None place b (Bad column) (bench_with rack b.corrections b)
-    told-bad rack done h =
-        (nearest-none b.set (column_at racks place b) (verdict_of Damaged h), e, Performed-one b (Show place) rack b.corrections (λ i. 0) done refl (λ i _. omega arith))
+    pub told-bad : IsVerdict (radius (decoders.set b.decoder)) None (decoders.set b.decoder) column Damaged → IsTold racks radius None place old (Bad column) b
+    told-bad h = (of_old (λ t v. nearest (radius t) None t v ≡ None) (nearest-none b.set column (verdict_of Damaged h)), shown.is_column, shown.performed)

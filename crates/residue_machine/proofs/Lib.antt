@@ -5,6 +5,5 @@ pub mod OperandLemmas
 pub mod PutLemmas
 pub mod Rows
 pub mod RunLemmas
-pub mod SettleLemmas
 pub mod StepLemmas
 pub mod TraceLemmas

@@ -1,5 +1,6 @@
 -- A trace, and then another from where it went on.
 use Rattle.std.proofs.Common.{◌≡◌, ℕ, ◌+◌, List, [], ◌∷◌, ◌++◌, length, Option, None, Some, refl, sym, ap, ◌∙◌, subst, arith}
+use Rattle.std.specs.Option.{option_map_or}
 use Rattle.moduli_sets.specs.Set.{ModuliSet}
 use Rattle.channel_alu.specs.declared.operation.MicroOp.TheVariants.{Show}
 use Rattle.fault_book.specs.Book.{Book}
@@ -7,31 +8,43 @@ use Rattle.channel_lane.specs.Lane.{LaneState}
 use Rattle.lane_bank.specs.Bank.{lanes_after, lanes_after_all}
 use Rattle.lane_bank.proofs.BankLemmas.{lanes_after_all-none, lanes_after_all-parts}
 use Rattle.machine_table.specs.Control.{Control}
-use Rattle.shown_run.specs.Trace.{Trace, did, showed, printed, went_on, ended, damaged, corrections_of, ending_of, operations_of, prints_of, where_went_on}
+use Rattle.shown_run.specs.Trace.{Trace, RunEnding, did, showed, printed, went_on, ended, damaged, corrections_of, ending_of, operations_of, prints_of, where_went_on}
 use Rattle.shown_run.specs.Joined.{then_trace}
 
 -- where control went on from a trace, if it did
 abbrev pub went_from : Trace → Option Control
 went_from t = where_went_on t (λ control. Some control) None
 
--- what a function says of that
+-- what a function says of a trace it says of that
+pub by_control : {A : Type 0} (t : Trace) (k : Control → A) (other : A) → where_went_on t k other ≡ option_map_or k (went_from t) other
+by_control (did op more) k other = by_control more k other
+by_control (showed place column x more) k other = by_control more k other
+by_control (printed x more) k other = by_control more k other
+by_control (went_on control) k other = refl
+by_control (ended end) k other = refl
+by_control (damaged place column) k other = refl
+
 pub said_of : {A : Type 0} (t : Trace) (c : Control) (k : Control → A) (other : A) → went_from t ≡ Some c → where_went_on t k other ≡ k c
-said_of (did op more) c k other e = said_of more c k other e
-said_of (showed place column x more) c k other e = said_of more c k other e
-said_of (printed x more) c k other e = said_of more c k other e
-said_of (went_on control) c k other e =
-    let same : control ≡ c = cc in
-    ap k same
-said_of (ended end) c k other e = cc
-said_of (damaged place column) c k other e = cc
+said_of t c k other e = by_control t k other ∙ ap (λ (o : Option Control). option_map_or k o other) e
 
 pub said_of_none : {A : Type 0} (t : Trace) (k : Control → A) (other : A) → went_from t ≡ None → where_went_on t k other ≡ other
-said_of_none (did op more) k other e = said_of_none more k other e
-said_of_none (showed place column x more) k other e = said_of_none more k other e
-said_of_none (printed x more) k other e = said_of_none more k other e
-said_of_none (went_on control) k other e = cc
-said_of_none (ended end) k other e = refl
-said_of_none (damaged place column) k other e = refl
+said_of_none t k other e = by_control t k other ∙ ap (λ (o : Option Control). option_map_or k o other) e
+
+-- what is said of the end of a run tells whether it went on
+some_went : (o : Option Control) (e : RunEnding) (other : Control) → option_map_or (λ control. None) o (Some e) ≡ None → o ≡ Some (option_map_or (λ control. control) o other)
+some_went None e other h = cc
+some_went (Some control) e other h = refl
+
+none_went : (o : Option Control) (e f : RunEnding) → option_map_or (λ control. None) o (Some e) ≡ Some f → o ≡ None
+none_went None e f h = refl
+none_went (Some control) e f h = cc
+
+pub goes_from : (t : Trace) (e : RunEnding) (other : Control) → where_went_on t (λ control. None) (Some e) ≡ None → went_from t ≡ Some (where_went_on t (λ control. control) other)
+goes_from t e other h =
+    some_went (went_from t) e other (sym (by_control t (λ control. None) (Some e)) ∙ h) ∙ ap Some (sym (by_control t (λ control. control) other))
+
+pub ends_there : (t : Trace) (e f : RunEnding) → where_went_on t (λ control. None) (Some e) ≡ Some f → went_from t ≡ None
+ends_there t e f h = none_went (went_from t) e f (sym (by_control t (λ control. None) (Some e)) ∙ h)
 
 -- where it ended there is no more
 pub then_trace-ended : (book : Book) (t : Trace) (lanes : List LaneState) (f : Control → List LaneState → Trace) → went_from t ≡ None → then_trace book t lanes f ≡ t

@@ -1,12 +1,15 @@
 -- The channels under control: what they are, and how operations and Shows change them.
 use Rattle.std.specs.Prelude.{◌≡◌, ℕ, ◌+◌, ◌<◌, ◌≤◌, ℤ, List, [], ◌∷◌, ◌++◌, All, length, replicate, slice_index, Option, Some, None, if◌then◌else◌}
+use Rattle.number_theory.specs.Residue.{AreResidues}
 use Rattle.moduli_sets.specs.Set.{ModuliSet, IsModuliSet}
 use Rattle.channel_alu.specs.declared.operation.Place.{Place}
 use Rattle.channel_alu.specs.declared.operation.MicroOp.{MicroOp}
 use Rattle.channel_alu.specs.declared.operation.MicroOp.TheVariants.{Show}
 use Rattle.channel_lane.specs.Lane.{LaneState}
 use Rattle.machine_table.specs.declared.instr.Instr.{Instr}
+use Rattle.machine_table.specs.declared.object.Object.{Object}
 use Rattle.machine_table.specs.Faults.{IsSound}
+use Rattle.machine_table.specs.Objects.{code_of, words_of}
 use Rattle.lane_bank.specs.Bank.{column_of, lanes_after_all, lanes_at_start}
 use Rattle.channel_scheduler.specs.declared.rack.Rack.{Ghosts as RackGhosts}
 use Rattle.redundant_decoder.specs.declared.decoder.Decoder.{Ghosts as DecoderGhosts}
@@ -25,6 +28,18 @@ pub record Bench (R D : Type 0) : Type 0 where
   pub decoder : D
   pub issued : ℕ
   pub corrections : List ℕ
+
+-- by the object and what else they are made of
+abbrev pub bench_of : {R D : Type 0} → ModuliSet → Object → R → D → ℕ → List ℕ → Bench R D
+bench_of set object rack decoder issued corrections = record {
+  set = set;
+  code = code_of object;
+  start = words_of object;
+  rack = rack;
+  decoder = decoder;
+  issued = issued;
+  corrections = corrections;
+}
 
 -- as they are made
 abbrev pub channels_at_start : {R D : Type 0} → ModuliSet → List Instr → List ℤ → R → D → Bench R D
@@ -82,6 +97,14 @@ module _ {R D : Type 0} (racks : RackGhosts R) where
   -- the column that a Show of a place gives
   abbrev pub column_at : Place → Bench R D → List ℕ
   column_at place bench = column_of (racks.book_of bench.rack) place (racks.lanes_of bench.rack)
+
+  -- a place was shown, and this is its column
+  pub record HasShown (place : Place) (old : Bench R D) (column : List ℕ) (new : Bench R D) : Type 0 where
+    pub is_column : column ≡ column_at place old
+    pub residues : AreResidues new.set.moduli column
+    -- each count has room for the correction of the column
+    pub few : All (λ n. n < new.issued) new.corrections
+    pub performed : Performed racks.IsUnderWay (Show place ∷ []) (λ i. 0) old new
 
   -- By how many residues a column may differ from that of the integer that it tells, by the set, and the channel that is
   -- left out of account, where one is.

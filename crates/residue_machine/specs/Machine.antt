@@ -51,6 +51,10 @@ abbrev pub ending_held : Option Ended → Option RunEnding
 ending_held None = None
 ending_held (Some e) = Some (ending_of_held e)
 
+-- a machine by what it is made of
+abbrev pub machine_of : {R D : Type 0} → Bench R D → Control → ℕ → Option Ended → MachineState R D
+machine_of channels control taken ended = record { channels = channels; control = control; taken = taken; ended = ending_held ended }
+
 -- how a trace ended the run, where it did; its first operation has number t
 abbrev pub end_of : ℕ → Trace → Option RunEnding
 end_of t trace = where_went_on trace (λ control. None) (Some (ending_of t trace))

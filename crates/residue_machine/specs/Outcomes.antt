@@ -10,9 +10,9 @@ use Rattle.shown_run.specs.Trace.{Trace, RunEnding, ending_of, prints_of, where_
 use Rattle.shown_run.specs.Trace as trace
 use Rattle.shown_run.specs.Runs.{shown}
 use Rattle.residue_machine.specs.declared.outcome.Outcome.{Outcome}
-use Rattle.residue_machine.specs.declared.outcome.Outcome.TheVariants.{Next, To, Print, Halt, Trap, Damage}
+use Rattle.residue_machine.specs.declared.outcome.Outcome.TheVariants.{Next, To, Print, End}
 use Rattle.residue_machine.specs.Bench.{Bench}
-use Rattle.residue_machine.specs.Machine.{Follows, decoding_of}
+use Rattle.residue_machine.specs.Machine.{Follows, decoding_of, ending_of_held}
 
 -- How an instruction is performed: by one operation and no other act; or the channels tell all that control goes on by; or
 -- the input or the return places have a part in it.
@@ -52,25 +52,19 @@ abbrev pub control_by : Outcome → Control → Option Control
 control_by Next control = Some (next control)
 control_by (To target) control = Some (at_place target control)
 control_by (Print x) control = Some (next control)
-control_by Halt control = None
-control_by (Trap kind line) control = None
-control_by (Damage t column) control = None
+control_by (End ended) control = None
 
 abbrev pub prints_by : Outcome → List ℤ
 prints_by Next = []
 prints_by (To target) = []
 prints_by (Print x) = x ∷ []
-prints_by Halt = []
-prints_by (Trap kind line) = []
-prints_by (Damage t column) = []
+prints_by (End ended) = []
 
 abbrev pub ending_by : Outcome → RunEnding
 ending_by Next = trace.spent
 ending_by (To target) = trace.spent
 ending_by (Print x) = trace.spent
-ending_by Halt = trace.halt
-ending_by (Trap kind line) = trace.trap kind line
-ending_by (Damage t column) = trace.damage t column
+ending_by (End ended) = ending_of_held ended
 
 module _ {R D : Type 0} (racks : RackGhosts R) (reach : ModuliSet → ℕ) (gone : Option ℕ) where
   -- what is shown of acts

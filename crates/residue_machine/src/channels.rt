@@ -9,7 +9,7 @@ ghost use Rattle.machine_table.specs.Faults.{IsSound};
 ghost use Rattle.micro_plan.specs.ActTree.{Acts};
 ghost use Rattle.micro_plan.specs.Plans.{IsPlanned, most_operations, plan_of};
 ghost use Rattle.micro_plan.specs.Stages.{HasPlaces, left_of, most_left, waits};
-ghost use Rattle.residue_machine.specs.Bench.{HasSettled, IsTold, Performed, channels_at_start};
+ghost use Rattle.residue_machine.specs.Bench.{HasSettled, HasShown, IsTold, Performed, channels_at_start};
 
 use channel_alu::{MicroOp, Place};
 use channel_scheduler::Rack;
@@ -56,30 +56,15 @@ impl<'o, R: Rack, D: Decoder> Model for Channels<'o, R, D> {
     ghost use Rattle.std.specs.Prelude.{◌≡◌};
     ghost use Rattle.moduli_sets.specs.Moduli.{set_of};
     ghost use Rattle.moduli_sets.specs.Name.{set_of_name};
-    ghost use Rattle.machine_table.specs.Objects.{code_of, set_of_object, words_of};
-    ghost use Rattle.residue_machine.specs.Bench.{Bench, IsBench};
+    ghost use Rattle.machine_table.specs.Objects.{set_of_object};
+    ghost use Rattle.residue_machine.specs.Bench.{Bench, IsBench, bench_of};
 
     ghost Value = { Bench R D };
 
-    ghost view = { λ c. record {
-      set = set_of c.set;
-      code = code_of c.object.now;
-      start = words_of c.object.now;
-      rack = c.rack;
-      decoder = c.decoder;
-      issued = c.issued;
-      corrections = c.corrections;
-    } };
+    ghost view = { λ c. bench_of (set_of c.set) c.object.now c.rack c.decoder c.issued c.corrections };
 
-    ghost invariant = { λ c. IsBench R.Rack D.Decoder (record {
-      set = set_of c.set;
-      code = code_of c.object.now;
-      start = words_of c.object.now;
-      rack = c.rack;
-      decoder = c.decoder;
-      issued = c.issued;
-      corrections = c.corrections;
-    }) × (set_of c.set ≡ set_of_name (set_of_object c.object.now)) };
+    ghost invariant = { λ c. IsBench R.Rack D.Decoder (bench_of (set_of c.set) c.object.now c.rack c.decoder c.issued c.corrections)
+        × (set_of c.set ≡ set_of_name (set_of_object c.object.now)) };
 }
 
 impl<'o, R: Rack, D: Decoder> Channels<'o, R, D> {
@@ -184,14 +169,24 @@ impl<'o, R: Rack, D: Decoder> Channels<'o, R, D> {
         self.issued += 1;
     }
 
+    /// Shows a place; its column.
+    fn show(&mut self, place: Place) -> Vector
+        requires place { HasPlace (length self.old.start) place }
+        requires room { self.old.issued < 10 ^ 18 }
+        ensures { HasShown R.Rack place self.old result self.new }
+    {
+        let column = self.rack.show(place);
+        self.issued += 1;
+        column
+    }
+
     /// Shows a place to the decoder.
     pub fn ask(&mut self, place: Place) -> Told
         requires place { HasPlace (length self.old.start) place }
         requires room { self.old.issued < 10 ^ 18 }
         ensures { IsTold R.Rack radius None place self.old result self.new }
     {
-        let column = self.rack.show(place);
-        self.issued += 1;
+        let column = self.show(place);
         match self.decoder.decode(&column) {
             Verdict::Clean(x) => Told::Integer(x),
             Verdict::Corrected(x, i) => {

@@ -6,6 +6,8 @@ ghost use Rattle.micro_plan.specs.Acts.{acts_of, read_acts, return_acts};
 ghost use Rattle.residue_machine.specs.Outcomes.{ComesTo, control_by};
 
 use crate::channels::Channels;
+use crate::ending::Ended;
+use crate::interval::lies_in;
 use crate::outcome::Outcome;
 use crate::position::Position;
 use channel_alu::{MicroOp, Place};
@@ -31,7 +33,7 @@ pub fn perform_next<'o, R: Rack, D: Decoder>(
     let code = channels.object().code();
     let counter = position.counter() as usize;
     if counter >= code.len() {
-        return Outcome::Halt;
+        return Outcome::End(Ended::Halt);
     }
     match code[counter] {
         Instr::In { a, low, high, line } => read_number(channels, position, a, low, high, line),
@@ -58,16 +60,16 @@ fn read_number<'o, R: Rack, D: Decoder>(
     ensures counter { position.new.counter ≡ position.old.counter }
 {
     match position.input() {
-        None => Outcome::Trap(Kind::InputEnd, line),
+        None => Outcome::End(Ended::Trap(Kind::InputEnd, line)),
         Some(x) => {
-            if low <= x && x <= high {
+            if lies_in(low, high, x) {
                 position.pass_input();
                 channels.compute(MicroOp::Put {
                     to: Place::Reg(a),
                     value: x,
                 })
             } else {
-                Outcome::Trap(Kind::InputRange, line)
+                Outcome::End(Ended::Trap(Kind::InputRange, line))
             }
         }
     }
@@ -88,7 +90,7 @@ fn call<'o, R: Rack, D: Decoder>(
     if position.hold() {
         Outcome::To(target)
     } else {
-        Outcome::Trap(Kind::Stack, line)
+        Outcome::End(Ended::Trap(Kind::Stack, line))
     }
 }
 
@@ -104,6 +106,6 @@ fn go_back<'o, R: Rack, D: Decoder>(
 {
     match position.release() {
         Some(place) => Outcome::To(place),
-        None => Outcome::Trap(Kind::Stack, line),
+        None => Outcome::End(Ended::Trap(Kind::Stack, line)),
     }
 }

@@ -8,6 +8,8 @@ ghost use Rattle.micro_plan.specs.Plans.{IsPlanned};
 ghost use Rattle.residue_machine.specs.Outcomes.{ComesTo, GoesOn, manner_of, shows, steers, tells_line};
 
 use crate::channels::Channels;
+use crate::ending::Ended;
+use crate::interval::lies_in;
 use crate::outcome::Outcome;
 use crate::performing::operation_of;
 use channel_alu::{MicroOp, Place};
@@ -42,7 +44,7 @@ impl<'o, R: Rack, D: Decoder> Channels<'o, R, D> {
     {
         self.rules();
         match *instr {
-            Instr::Halt => Outcome::Halt,
+            Instr::Halt => Outcome::End(Ended::Halt),
             Instr::Ldx {
                 a,
                 b,
@@ -83,10 +85,10 @@ impl<'o, R: Rack, D: Decoder> Channels<'o, R, D> {
             },
             Instr::Chk { a, low, high, line } => match self.hear(Place::Reg(a)) {
                 Ok(x) => {
-                    if low <= x && x <= high {
+                    if lies_in(low, high, x) {
                         Outcome::Next
                     } else {
-                        Outcome::Trap(Kind::Range, line)
+                        Outcome::End(Ended::Trap(Kind::Range, line))
                     }
                 }
                 Err(outcome) => outcome,
@@ -95,7 +97,7 @@ impl<'o, R: Rack, D: Decoder> Channels<'o, R, D> {
                 Ok(x) => Outcome::Print(x),
                 Err(outcome) => outcome,
             },
-            Instr::Trp { kind, line } => Outcome::Trap(kind_of(kind), line),
+            Instr::Trp { kind, line } => Outcome::End(Ended::Trap(kind_of(kind), line)),
             _ => unreachable!(),
         }
     }

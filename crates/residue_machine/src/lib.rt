@@ -10,6 +10,7 @@ mod channels;
 mod ending;
 mod following;
 mod instructions;
+mod interval;
 mod laws;
 mod machine;
 mod outcome;

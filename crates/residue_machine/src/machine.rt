@@ -42,16 +42,11 @@ impl<'o, R: Rack, D: Decoder> Drop for Machine<'o, R, D> {
 }
 
 impl<'o, R: Rack, D: Decoder> Model for Machine<'o, R, D> {
-    ghost use Rattle.residue_machine.specs.Machine.{IsWithinTurns, MachineState, ending_held};
+    ghost use Rattle.residue_machine.specs.Machine.{IsWithinTurns, MachineState, machine_of};
 
     ghost Value = { MachineState R D };
 
-    ghost view = { λ m. record {
-      channels = m.channels;
-      control = m.position;
-      taken = m.taken;
-      ended = ending_held m.ended;
-    } };
+    ghost view = { λ m. machine_of m.channels m.position m.taken m.ended };
 
     ghost invariant = { λ m. IsWithinTurns m.channels.issued m.taken };
 }
@@ -166,9 +161,7 @@ impl<'o, R: Rack, D: Decoder> Machine<'o, R, D> {
                 self.position.advance();
                 Stepped::Print(x)
             }
-            Outcome::Halt => end(&mut self.ended, Ended::Halt),
-            Outcome::Trap(kind, line) => end(&mut self.ended, Ended::Trap(kind, line)),
-            Outcome::Damage(number, column) => end(&mut self.ended, Ended::Damage(number, column)),
+            Outcome::End(ended) => end(&mut self.ended, ended),
         }
     }
 

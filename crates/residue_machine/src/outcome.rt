@@ -1,4 +1,4 @@
-use moduli_sets::{Kind, Vector};
+use crate::ending::Ended;
 
 /// What the channels say of an instruction, for control to go on by.
 #[derive(Debug, Drop)]
@@ -9,10 +9,6 @@ pub enum Outcome {
     To(u32),
     /// It goes on with the next instruction, and this integer is printed.
     Print(i128),
-    /// The program ends.
-    Halt,
-    /// A trap of a kind, at a line of the source.
-    Trap(Kind, u32),
-    /// No integer in range explains the column that the operation of this number showed.
-    Damage(u64, Vector),
+    /// The run ends.
+    End(Ended),
 }

@@ -15,6 +15,8 @@ ghost use Rattle.residue_machine.specs.declared.channels.Told.TheVariants.{Integ
 ghost use Rattle.residue_machine.specs.declared.outcome.Outcome.{Outcome as OutcomeOf};
 
 use crate::channels::{Channels, Told};
+use crate::ending::Ended;
+use crate::interval::is_index;
 use crate::outcome::Outcome;
 use channel_alu::{MicroOp, Place};
 use channel_scheduler::Rack;
@@ -100,7 +102,7 @@ impl<'o, R: Rack, D: Decoder> Channels<'o, R, D> {
     {
         match self.ask(place) {
             Told::Integer(x) => Ok(x),
-            Told::Bad(column) => Err(Outcome::Damage(self.issued() - 1, column)),
+            Told::Bad(column) => Err(Outcome::End(Ended::Damage(self.issued() - 1, column))),
         }
     }
 
@@ -146,10 +148,10 @@ impl<'o, R: Rack, D: Decoder> Channels<'o, R, D> {
     {
         match self.hear(Place::Reg(b)) {
             Ok(x) => {
-                if 0 <= x && x < i128::from(count) {
+                if is_index(count, x) {
                     Ok(address + x as u32)
                 } else {
-                    Err(Outcome::Trap(Kind::Index, line))
+                    Err(Outcome::End(Ended::Trap(Kind::Index, line)))
                 }
             }
             Err(outcome) => Err(outcome),
@@ -177,7 +179,7 @@ impl<'o, R: Rack, D: Decoder> Channels<'o, R, D> {
                     Err(outcome) => return outcome,
                 },
                 Next::Done => return Outcome::Next,
-                Next::Zero => return Outcome::Trap(Kind::Zero, line),
+                Next::Zero => return Outcome::End(Ended::Trap(Kind::Zero, line)),
             }
         }
     }

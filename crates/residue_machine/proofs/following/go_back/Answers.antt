@@ -3,7 +3,8 @@ use Rattle.moduli_sets.specs.Set.{radius}
 use Rattle.moduli_sets.specs.declared.kind.Kind.TheVariants.{Stack}
 use Rattle.machine_table.specs.Control.{Control}
 use Rattle.micro_plan.specs.Acts.{return_acts}
-use Rattle.residue_machine.specs.declared.outcome.Outcome.TheVariants.{To, Trap}
+use Rattle.residue_machine.specs.declared.outcome.Outcome.TheVariants.{To, End}
+use Rattle.residue_machine.specs.declared.ending.Ended.TheVariants as ended
 use Rattle.residue_machine.specs.Outcomes.{ComesTo}
 use Rattle.residue_machine.specs.Places.{holding}
 use Rattle.residue_machine.proofs.ActLemmas.{comes-to, comes-trap}
@@ -22,5 +23,5 @@ pub returns-in-None-clause-comes : goal.returns-in-None-clause-comes
 returns-in-None-clause-comes g c =
     let old = c.args.position.now in
     let b = c.args.channels.now in
-    subst (λ (p : Control). ComesTo g.R.Rack radius None (return_acts c.args.line old.places old) p b (Trap Stack c.args.line) b) (sym c.in-None.ensures.1)
-    (subst (λ (ps : List ℕ). ComesTo g.R.Rack radius None (return_acts c.args.line ps old) old b (Trap Stack c.args.line) b) (sym c.in-None.ensures.0) (comes-trap g.R.Rack radius None Stack c.args.line old b))
+    subst (λ (p : Control). ComesTo g.R.Rack radius None (return_acts c.args.line old.places old) p b (End (ended.Trap Stack c.args.line)) b) (sym c.in-None.ensures.1)
+    (subst (λ (ps : List ℕ). ComesTo g.R.Rack radius None (return_acts c.args.line ps old) old b (End (ended.Trap Stack c.args.line)) b) (sym c.in-None.ensures.0) (comes-trap g.R.Rack radius None Stack c.args.line old b))

@@ -10,6 +10,7 @@ use Rattle.machine_table.specs.Operands.{IsSoundOperand, operands_of}
 use Rattle.micro_plan.specs.Acts.{acts_of}
 use Rattle.micro_plan.proofs.ToldRuns.{sound_at}
 use Rattle.residue_machine.specs.declared.outcome.Outcome.TheVariants as outcome
+use Rattle.residue_machine.specs.declared.ending.Ended.TheVariants as ended
 use Rattle.residue_machine.specs.Outcomes.{ComesTo}
 use Rattle.residue_machine.proofs.ActLemmas.{comes-halt}
 use Rattle.residue_machine.proofs.OperandLemmas.{instruction-is, named}
@@ -22,7 +23,7 @@ returns-then-counter-code-clause-comes g c =
     let same : c.code-code.result.now ≡ b.code = c.code-code.ensures ∙ c.object.ensures.code in
     let past : length b.code ≤ old.counter =
     subst (λ (n : ℕ). length b.code ≤ n) c.counter-counter.ensures (subst (λ (xs : List Instr). length xs ≤ c.counter-counter.result) same c.if-counter-code.true) in
-    subst (λ (i : Instr). ComesTo g.R.Rack radius None (acts_of b.set i old) old b outcome.Halt b) (sym (get_or_past b.code old.counter Halt past)) (comes-halt g.R.Rack radius None old b)
+    subst (λ (i : Instr). ComesTo g.R.Rack radius None (acts_of b.set i old) old b (outcome.End ended.Halt) b) (sym (get_or_past b.code old.counter Halt past)) (comes-halt g.R.Rack radius None old b)
 
 pub read_number-requires-clause-register : goal.read_number-requires-clause-register
 read_number-requires-clause-register g c =

@@ -1,9 +1,7 @@
 use Rattle.std.proofs.Common.{rules, ◌≡◌, ℤ, List, drop, true, false, sym, subst, None}
-use Rattle.std.specs.Prelude.{int_le}
 use Rattle.std.specs.Int.{w128}
 use Rattle.std.specs.Int.RustNames.{FitsSigned}
 use Rattle.std.proofs.lemmas.Int.{to_z-of_z}
-use Rattle.std.proofs.lemmas.Bool.{and_from}
 use Rattle.moduli_sets.specs.Set.{radius}
 use Rattle.moduli_sets.specs.declared.kind.Kind.TheVariants.{InputEnd, InputRange}
 use Rattle.channel_alu.specs.declared.operation.Place.TheVariants.{Reg}
@@ -11,65 +9,49 @@ use Rattle.channel_alu.specs.declared.operation.MicroOp.TheVariants.{Put}
 use Rattle.machine_table.specs.Control.{Control, lies_in, traps, with_input}
 use Rattle.micro_plan.specs.ActTree.{end_by}
 use Rattle.micro_plan.specs.Acts.{issues, read_acts}
-use Rattle.residue_machine.specs.declared.outcome.Outcome.TheVariants.{Trap}
+use Rattle.residue_machine.specs.declared.ending.Ended.TheVariants as ended
+use Rattle.residue_machine.specs.declared.outcome.Outcome.TheVariants.{End}
 use Rattle.residue_machine.specs.Outcomes.{ComesTo}
-use Rattle.residue_machine.proofs.ActLemmas.{comes-else, comes-if, comes-trap, lies_above, lies_below}
+use Rattle.residue_machine.proofs.ActLemmas.{comes-else, comes-if, comes-trap}
 use Rattle.residue_machine.proofs.following.read_number.Goals as goal
-use Rattle.residue_machine.proofs.following.read_number.Goals.{else-low-x-via-then-low-x+else-x-high, else-low-x-via-else-low-x}
 
 pub returns-in-None-clause-comes : goal.returns-in-None-clause-comes
 returns-in-None-clause-comes g c =
     let old = c.args.position.now in
     let b = c.args.channels.now in
-    subst (λ (xs : List ℤ). ComesTo g.R.Rack radius None (read_acts c.args.a c.args.low c.args.high c.args.line xs old) old b (Trap InputEnd c.args.line) b) (sym c.in-None.ensures)
+    subst (λ (xs : List ℤ). ComesTo g.R.Rack radius None (read_acts c.args.a c.args.low c.args.high c.args.line xs old) old b (End (ended.Trap InputEnd c.args.line)) b) (sym c.in-None.ensures)
     (comes-trap g.R.Rack radius None InputEnd c.args.line old b)
 
-pub returns-then-x-high-clause-comes : goal.returns-then-x-high-clause-comes
-returns-then-x-high-clause-comes g c =
+pub returns-then-lies_in-clause-comes : goal.returns-then-lies_in-clause-comes
+returns-then-lies_in-clause-comes g c =
     let old = c.args.position.now in
     let b = c.args.channels.now in
     let x = c.in-Some.x in
-    let rest = drop 1 old.input in
-    let passed : Control = with_input rest old in
+    let passed : Control = with_input (drop 1 old.input) old in
     let low = c.args.low in
     let high = c.args.high in
     let fits : FitsSigned w128 x = search rules in
     let ex = to_z-of_z w128 x fits in
     let fits_low : FitsSigned w128 low = search rules in
-    let el = to_z-of_z w128 low fits_low in
     let fits_high : FitsSigned w128 high = search rules in
-    let eh = to_z-of_z w128 high fits_high in
-    let above : int_le low x ≡ true = cc (c.if-low-x.true, el, ex) in
-    let below : int_le x high ≡ true = cc (c.if-x-high.true, eh, ex) in
-    let within : lies_in low high x ≡ true = and_from (int_le low x) (int_le x high) above below in
+    let within : lies_in low high x ≡ true = cc (c.lies_in.ensures, c.if-lies_in.true, ex, to_z-of_z w128 low fits_low, to_z-of_z w128 high fits_high) in
     let comes = subst (λ (z : ℤ). ComesTo g.R.Rack radius None (issues (Put (Reg c.args.a) z) passed) passed b c.compute.result c.compute.new.self) ex (c.compute.ensures.comes passed) in
     subst (λ (p : Control). ComesTo g.R.Rack radius None (read_acts c.args.a low high c.args.line old.input old) p b c.compute.result c.compute.new.self) (sym c.pass_input.ensures)
     (subst (λ (xs : List ℤ). ComesTo g.R.Rack radius None (read_acts c.args.a low high c.args.line xs old) passed b c.compute.result c.compute.new.self) (sym c.in-Some.ensures)
     (comes-if g.R.Rack radius None (lies_in low high x) (issues (Put (Reg c.args.a) x) passed) (end_by (traps InputRange c.args.line)) passed b c.compute.new.self c.compute.result within comes))
 
-pub returns-else-low-x-clause-comes : goal.returns-else-low-x-clause-comes
-returns-else-low-x-clause-comes g c =
+pub returns-else-lies_in-clause-comes : goal.returns-else-lies_in-clause-comes
+returns-else-lies_in-clause-comes g c =
     let old = c.args.position.now in
     let b = c.args.channels.now in
     let x = c.in-Some.x in
-    let rest = drop 1 old.input in
-    let passed : Control = with_input rest old in
+    let passed : Control = with_input (drop 1 old.input) old in
     let low = c.args.low in
     let high = c.args.high in
     let fits : FitsSigned w128 x = search rules in
     let ex = to_z-of_z w128 x fits in
     let fits_low : FitsSigned w128 low = search rules in
-    let el = to_z-of_z w128 low fits_low in
     let fits_high : FitsSigned w128 high = search rules in
-    let eh = to_z-of_z w128 high fits_high in
-    let outside : lies_in low high x ≡ false = elim c.else-low-x.branch [
-      | else-low-x-via-then-low-x+else-x-high w ↦
-          let above : int_le low x ≡ true = cc (w.if-low-x.true, el, ex) in
-          let below : int_le x high ≡ false = cc (w.if-x-high.false, eh, ex) in
-          lies_above low high x above below
-      | else-low-x-via-else-low-x w ↦
-          let above : int_le low x ≡ false = cc (w.if-low-x.false, el, ex) in
-          lies_below low high x above
-    ] in
-    subst (λ (xs : List ℤ). ComesTo g.R.Rack radius None (read_acts c.args.a low high c.args.line xs old) old b (Trap InputRange c.args.line) b) (sym c.in-Some.ensures)
-    (comes-else g.R.Rack radius None (lies_in low high x) (issues (Put (Reg c.args.a) x) passed) (end_by (traps InputRange c.args.line)) old b b (Trap InputRange c.args.line) outside (comes-trap g.R.Rack radius None InputRange c.args.line old b))
+    let outside : lies_in low high x ≡ false = cc (c.lies_in.ensures, c.if-lies_in.false, ex, to_z-of_z w128 low fits_low, to_z-of_z w128 high fits_high) in
+    subst (λ (xs : List ℤ). ComesTo g.R.Rack radius None (read_acts c.args.a low high c.args.line xs old) old b (End (ended.Trap InputRange c.args.line)) b) (sym c.in-Some.ensures)
+    (comes-else g.R.Rack radius None (lies_in low high x) (issues (Put (Reg c.args.a) x) passed) (end_by (traps InputRange c.args.line)) old b b (End (ended.Trap InputRange c.args.line)) outside (comes-trap g.R.Rack radius None InputRange c.args.line old b))

@@ -1,9 +1,8 @@
-use Rattle.std.proofs.Common.{rules, ◌≡◌, ◌+◌, ℤ, pos, true, subst, ap, ◌∙◌, None}
-use Rattle.std.specs.Prelude.{int_le, int_lt, unsigned_abs}
+use Rattle.std.proofs.Common.{rules, ◌≡◌, ◌+◌, ℤ, true, ap, None}
+use Rattle.std.specs.Prelude.{unsigned_abs}
 use Rattle.std.specs.Int.{w128}
 use Rattle.std.specs.Int.RustNames.{FitsSigned}
 use Rattle.std.proofs.lemmas.Int.{to_z-of_z}
-use Rattle.std.proofs.lemmas.Bool.{and_from}
 use mir.Val.{to_z, of_z}
 use Rattle.moduli_sets.specs.Set.{radius}
 use Rattle.moduli_sets.specs.declared.kind.Kind.TheVariants.{Index}
@@ -16,17 +15,12 @@ use Rattle.std.specs.Prelude.{if◌then◌else◌}
 use Rattle.residue_machine.proofs.ActLemmas.{comes-element}
 use Rattle.residue_machine.proofs.channels.Channels.element.Goals as goal
 
-pub returns-then-x-from-clause-told : goal.returns-then-x-from-clause-told
-returns-then-x-from-clause-told g c =
+pub returns-then-is_index-clause-told : goal.returns-then-is_index-clause-told
+returns-then-is_index-clause-told g c =
     let x = c.in-Ok.x in
     let fits : FitsSigned w128 x = search rules in
     let ex : to_z w128 (of_z w128 x) ≡ x = to_z-of_z w128 x fits in
-    let low : int_le (pos 0) x ≡ true = cc (c.if-x-ge0.true, ex) in
-    let fits_count : FitsSigned w128 c.from.result = search rules in
-    let high : int_lt x (pos c.args.count) ≡ true =
-    subst (λ (z : ℤ). int_lt z (pos c.args.count) ≡ true) ex
-    (subst (λ (w : ℤ). int_lt (to_z w128 (of_z w128 x)) w ≡ true) (to_z-of_z w128 c.from.result fits_count ∙ c.from.ensures) c.if-x-from.true) in
-    let inside : is_index c.args.count x ≡ true = and_from (int_le (pos 0) x) (int_lt x (pos c.args.count)) low high in
+    let inside : is_index c.args.count x ≡ true = cc (c.is_index.ensures, c.if-is_index.true, ex) in
     let at : c.args.address + unsigned_abs (to_z w128 (of_z w128 x)) ≡ c.args.address + unsigned_abs x = ap (λ (z : ℤ). c.args.address + unsigned_abs z) ex in
     λ copy control outcome last h.
     comes-element g.R.Rack radius None copy c.args.b c.args.address c.args.count c.args.line x (c.args.address + unsigned_abs (to_z w128 (of_z w128 x))) control c.args.self.now c.hear.new.self last outcome c.in-Ok.ensures.told inside at h

@@ -1,22 +1,21 @@
-use Rattle.std.proofs.Common.{◌<◌, ◌^◌, length, sym, subst, refl}
+use Rattle.std.proofs.Common.{◌<◌, ◌^◌, length, sym, subst}
 use Rattle.moduli_sets.specs.Moduli.{set_of}
-use Rattle.machine_table.specs.Objects.{code_of, words_of}
 use Rattle.channel_lane.specs.Meaning.{CanPerform}
-use Rattle.residue_machine.specs.Bench.{Bench}
-use Rattle.residue_machine.proofs.BenchLemmas.{IsBench-more, can, few_same, room}
+use Rattle.residue_machine.specs.Bench.{Bench, bench_of}
+use Rattle.residue_machine.proofs.BenchLemmas.{IsBench-more, can, room}
 use Rattle.residue_machine.proofs.channels.Channels.issue.Goals as goal
 
 pub issue-requires-clause-can : goal.issue-requires-clause-can
 issue-requires-clause-can g c =
     let s = c.self.inside in
-    let old : Bench g.row.R.Denot g.row.D.Denot = record { set = set_of s.set; code = code_of s.object.now; start = words_of s.object.now; rack = s.rack; decoder = s.decoder; issued = s.issued; corrections = s.corrections } in
+    let old = bench_of (set_of s.set) s.object.now s.rack s.decoder s.issued s.corrections in
     can g.R.Rack old c.args.op c.self.invariant.0.come
     (subst (λ (b : Bench g.row.R.Denot g.row.D.Denot). CanPerform (length b.start) (length b.set.moduli) c.args.op) (sym c.self.view_is) c.requires.can)
 
 pub issue-requires-clause-room : goal.issue-requires-clause-room
 issue-requires-clause-room g c =
     let s = c.self.inside in
-    let old : Bench g.row.R.Denot g.row.D.Denot = record { set = set_of s.set; code = code_of s.object.now; start = words_of s.object.now; rack = s.rack; decoder = s.decoder; issued = s.issued; corrections = s.corrections } in
+    let old = bench_of (set_of s.set) s.object.now s.rack s.decoder s.issued s.corrections in
     room g.R.Rack old c.self.invariant.0.come
     (subst (λ (b : Bench g.row.R.Denot g.row.D.Denot). b.issued < 10 ^ 18) (sym c.self.view_is) c.requires.room)
 
@@ -24,8 +23,8 @@ pub invariant_of-self : goal.invariant_of-self
 invariant_of-self g c =
     let s = c.self.inside in
     let done = c.issue.ensures in
-    let old : Bench g.row.R.Denot g.row.D.Denot = record { set = set_of s.set; code = code_of s.object.now; start = words_of s.object.now; rack = s.rack; decoder = s.decoder; issued = s.issued; corrections = s.corrections } in (
-      IsBench-more g.R.Rack g.D.Decoder old c.args.op c.issue.new.self s.corrections
-          (record { book = done.book; plan = done.plan; lanes = done.lanes; run = done.run }) c.self.invariant.0 refl (few_same g.R.Rack g.D.Decoder old c.self.invariant.0),
+    let old = bench_of (set_of s.set) s.object.now s.rack s.decoder s.issued s.corrections in (
+      IsBench-more g.R.Rack g.D.Decoder old c.args.op c.issue.new.self
+          (record { book = done.book; plan = done.plan; lanes = done.lanes; run = done.run }) c.self.invariant.0,
       c.self.invariant.1,
     )

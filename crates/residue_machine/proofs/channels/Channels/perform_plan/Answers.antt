@@ -10,7 +10,8 @@ use Rattle.machine_table.specs.Control.{Control, next, traps}
 use Rattle.micro_plan.specs.ActTree.{Acts, end_by, go_on}
 use Rattle.micro_plan.specs.Stages.{left_of, most_left}
 use Rattle.residue_machine.specs.declared.outcome.Outcome.{Outcome}
-use Rattle.residue_machine.specs.declared.outcome.Outcome.TheVariants.{Next, Trap}
+use Rattle.residue_machine.specs.declared.outcome.Outcome.TheVariants.{Next, End}
+use Rattle.residue_machine.specs.declared.ending.Ended.TheVariants as ended
 use Rattle.residue_machine.specs.Bench.{Bench}
 use Rattle.residue_machine.specs.Outcomes.{ComesTo}
 use Rattle.residue_machine.proofs.ActLemmas.{comes-ask, comes-issue, comes-next, comes-trap, is_silent}
@@ -98,5 +99,5 @@ pub returns-in-Zero-clause-comes : goal.returns-in-Zero-clause-comes
 returns-in-Zero-clause-comes g c = λ control.
     let zero = end_by (traps Zero c.args.line) in
     let rest = go_on (next control) in
-    c.acts.invariant.whole control (Trap Zero c.args.line) c.acts.self
-    (subst (λ (a : Acts). ComesTo g.R.Rack radius None a control c.acts.self (Trap Zero c.args.line) c.acts.self) (sym (c.in-Zero.ensures.next zero rest).0) (comes-trap g.R.Rack radius None Zero c.args.line control c.acts.self))
+    c.acts.invariant.whole control (End (ended.Trap Zero c.args.line)) c.acts.self
+    (subst (λ (a : Acts). ComesTo g.R.Rack radius None a control c.acts.self (End (ended.Trap Zero c.args.line)) c.acts.self) (sym (c.in-Zero.ensures.next zero rest).0) (comes-trap g.R.Rack radius None Zero c.args.line control c.acts.self))

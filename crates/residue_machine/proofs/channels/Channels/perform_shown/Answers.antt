@@ -1,10 +1,9 @@
 use Rattle.std.proofs.Common.{rules, arith, ◌≡◌, ◌<◌, ℤ, Bool, All, length, true, false, sym, subst, None}
-use Rattle.std.specs.Prelude.{int_lt, int_le, if◌then◌else◌}
+use Rattle.std.specs.Prelude.{int_lt, if◌then◌else◌}
 use Rattle.std.specs.Ordering.{int_eq}
 use Rattle.std.specs.Int.{w128}
 use Rattle.std.specs.Int.RustNames.{FitsSigned}
 use Rattle.std.proofs.lemmas.Int.{to_z-of_z}
-use Rattle.std.proofs.lemmas.Bool.{and_from}
 use Rattle.std.proofs.cmp.Tests.{signed_test}
 use mir.Val.{to_z, of_z}
 use Rattle.moduli_sets.specs.Set.{radius}
@@ -20,13 +19,13 @@ use Rattle.machine_table.specs.Operands.{IsSoundOperand, operands_of}
 use Rattle.micro_plan.specs.ActTree.{end_by, go_on, print}
 use Rattle.micro_plan.specs.Acts.{acts_of}
 use Rattle.micro_plan.specs.Plans.{IsPlanned}
+use Rattle.residue_machine.specs.declared.ending.Ended.TheVariants as ended
 use Rattle.residue_machine.specs.declared.outcome.Outcome.TheVariants as outcome
 use Rattle.residue_machine.specs.Outcomes.{ComesTo, GoesOn}
 use Rattle.micro_plan.proofs.ToldInstructions.{info_below}
-use Rattle.residue_machine.proofs.ActLemmas.{comes-ask, comes-else, comes-halt, comes-if, comes-next, comes-to, comes-trap, comes-went, lies_above, lies_below}
+use Rattle.residue_machine.proofs.ActLemmas.{comes-ask, comes-else, comes-halt, comes-if, comes-next, comes-to, comes-trap, comes-went}
 use Rattle.residue_machine.proofs.OperandLemmas.{named}
 use Rattle.residue_machine.proofs.channels.Channels.perform_shown.Goals as goal
-use Rattle.residue_machine.proofs.channels.Channels.perform_shown.Goals.{else-low-x-via-then-low-x+else-x-high, else-low-x-via-else-low-x}
 
 pub divide-requires-in-Scl-clause-planned : goal.divide-requires-in-Scl-clause-planned
 divide-requires-in-Scl-clause-planned g c =
@@ -42,7 +41,7 @@ divide-requires-in-Scl-clause-planned g c =
 pub returns-in-Halt-clause-comes : goal.returns-in-Halt-clause-comes
 returns-in-Halt-clause-comes g c = λ control.
     let b = c.args.self.now in
-    subst (λ (i : Instr). ComesTo g.R.Rack radius None (acts_of b.set i control) control b outcome.Halt b) (sym c.in-Halt.is) (comes-halt g.R.Rack radius None control b)
+    subst (λ (i : Instr). ComesTo g.R.Rack radius None (acts_of b.set i control) control b (outcome.End ended.Halt) b) (sym c.in-Halt.is) (comes-halt g.R.Rack radius None control b)
 
 pub returns-in-Ok-clause-comes : goal.returns-in-Ok-clause-comes
 returns-in-Ok-clause-comes g c = λ control.
@@ -115,45 +114,29 @@ returns-in-Err-hear_both-2-clause-comes g c = λ control.
     subst (λ (i : Instr). ComesTo g.R.Rack radius None (acts_of b.set i control) control b c.in-Err-hear_both-2.outcome c.hear_both-in-Beq.new.self) (sym met.is)
     (c.in-Err-hear_both-2.ensures.told (λ x y. go_on (if int_eq x y then at_place met.target control else next control)) control)
 
-pub returns-then-x-high-clause-comes : goal.returns-then-x-high-clause-comes
-returns-then-x-high-clause-comes g c = λ control.
+pub returns-then-lies_in-clause-comes : goal.returns-then-lies_in-clause-comes
+returns-then-lies_in-clause-comes g c = λ control.
     let b = c.args.self.now in
     let chk = c.in-Chk in
     let x = c.in-Ok-hear.x in
     let fits : FitsSigned w128 x = search rules in
     let fits_low : FitsSigned w128 chk.low = search rules in
     let fits_high : FitsSigned w128 chk.high = search rules in
-    let ex = to_z-of_z w128 x fits in
-    let el = to_z-of_z w128 chk.low fits_low in
-    let eh = to_z-of_z w128 chk.high fits_high in
-    let low : int_le chk.low x ≡ true = cc (c.if-low-x.true, el, ex) in
-    let high : int_le x chk.high ≡ true = cc (c.if-x-high.true, eh, ex) in
-    let within : lies_in chk.low chk.high x ≡ true = and_from (int_le chk.low x) (int_le x chk.high) low high in
+    let within : lies_in chk.low chk.high x ≡ true = cc (c.lies_in.ensures, c.if-lies_in.true, to_z-of_z w128 x fits, to_z-of_z w128 chk.low fits_low, to_z-of_z w128 chk.high fits_high) in
     subst (λ (i : Instr). ComesTo g.R.Rack radius None (acts_of b.set i control) control b outcome.Next c.hear.new.self) (sym chk.is)
     (comes-ask g.R.Rack radius None (Reg chk.a) (λ y. if lies_in chk.low chk.high y then go_on (next control) else end_by (traps Range chk.line)) x control b c.hear.new.self c.hear.new.self outcome.Next c.in-Ok-hear.ensures.told
     (comes-if g.R.Rack radius None (lies_in chk.low chk.high x) (go_on (next control)) (end_by (traps Range chk.line)) control c.hear.new.self c.hear.new.self outcome.Next within (comes-next g.R.Rack radius None control c.hear.new.self)))
 
-pub returns-else-low-x-clause-comes : goal.returns-else-low-x-clause-comes
-returns-else-low-x-clause-comes g c = λ control.
+pub returns-else-lies_in-clause-comes : goal.returns-else-lies_in-clause-comes
+returns-else-lies_in-clause-comes g c = λ control.
     let b = c.args.self.now in
     let chk = c.in-Chk in
     let x = c.in-Ok-hear.x in
     let fits : FitsSigned w128 x = search rules in
     let fits_low : FitsSigned w128 chk.low = search rules in
     let fits_high : FitsSigned w128 chk.high = search rules in
-    let ex = to_z-of_z w128 x fits in
-    let el = to_z-of_z w128 chk.low fits_low in
-    let eh = to_z-of_z w128 chk.high fits_high in
-    let outside : lies_in chk.low chk.high x ≡ false = elim c.else-low-x.branch [
-      | else-low-x-via-then-low-x+else-x-high w ↦
-          let low : int_le chk.low x ≡ true = cc (w.if-low-x.true, el, ex) in
-          let high : int_le x chk.high ≡ false = cc (w.if-x-high.false, eh, ex) in
-          lies_above chk.low chk.high x low high
-      | else-low-x-via-else-low-x w ↦
-          let low : int_le chk.low x ≡ false = cc (w.if-low-x.false, el, ex) in
-          lies_below chk.low chk.high x low
-    ] in
-    let after = outcome.Trap Range chk.line in
+    let outside : lies_in chk.low chk.high x ≡ false = cc (c.lies_in.ensures, c.if-lies_in.false, to_z-of_z w128 x fits, to_z-of_z w128 chk.low fits_low, to_z-of_z w128 chk.high fits_high) in
+    let after = outcome.End (ended.Trap Range chk.line) in
     subst (λ (i : Instr). ComesTo g.R.Rack radius None (acts_of b.set i control) control b after c.hear.new.self) (sym chk.is)
     (comes-ask g.R.Rack radius None (Reg chk.a) (λ y. if lies_in chk.low chk.high y then go_on (next control) else end_by (traps Range chk.line)) x control b c.hear.new.self c.hear.new.self after c.in-Ok-hear.ensures.told
     (comes-else g.R.Rack radius None (lies_in chk.low chk.high x) (go_on (next control)) (end_by (traps Range chk.line)) control c.hear.new.self c.hear.new.self after outside (comes-trap g.R.Rack radius None Range chk.line control c.hear.new.self)))
@@ -175,5 +158,5 @@ pub returns-in-Trp-clause-comes : goal.returns-in-Trp-clause-comes
 returns-in-Trp-clause-comes g c = λ control.
     let b = c.args.self.now in
     let trp = c.in-Trp in
-    subst (λ (i : Instr). ComesTo g.R.Rack radius None (acts_of b.set i control) control b (outcome.Trap c.kind_of.result trp.line) b) (sym trp.is)
-    (subst (λ (k : Kind). ComesTo g.R.Rack radius None (end_by (traps (kind_numbered trp.kind) trp.line)) control b (outcome.Trap k trp.line) b) (sym c.kind_of.ensures) (comes-trap g.R.Rack radius None (kind_numbered trp.kind) trp.line control b))
+    subst (λ (i : Instr). ComesTo g.R.Rack radius None (acts_of b.set i control) control b (outcome.End (ended.Trap c.kind_of.result trp.line)) b) (sym trp.is)
+    (subst (λ (k : Kind). ComesTo g.R.Rack radius None (end_by (traps (kind_numbered trp.kind) trp.line)) control b (outcome.End (ended.Trap k trp.line)) b) (sym c.kind_of.ensures) (comes-trap g.R.Rack radius None (kind_numbered trp.kind) trp.line control b))

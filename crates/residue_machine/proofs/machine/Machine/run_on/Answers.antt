@@ -7,22 +7,20 @@ use Rattle.moduli_sets.specs.Set.{radius}
 use Rattle.number_text.specs.Lines.{line, print_lines}
 use Rattle.outside.specs.Sink.{BrokeOff, WroteAll}
 use Rattle.outside.proofs.Runs.{BrokeOff-one, WroteAll-none, WroteAll-one}
-use Rattle.shown_run.specs.Trace as trace
 use Rattle.residue_machine.specs.declared.ending.Ending.{Ending}
 use Rattle.residue_machine.specs.declared.ending.Ending.TheVariants as ending
 use Rattle.residue_machine.specs.declared.ending.Stepped.{Stepped}
 use Rattle.residue_machine.specs.declared.ending.Stepped.TheVariants as stepped
-use Rattle.residue_machine.specs.Machine.{HasStepped, MachineState, RunsOut, ending_held, ending_of_held, prints_by}
-use Rattle.residue_machine.proofs.PutLemmas.{RunsOut-more, RunsOut-none, came-last, put-failed, run-again, run-fresh}
-use Rattle.residue_machine.proofs.StepLemmas.{is_over, step-own, still_on}
+use Rattle.residue_machine.specs.Machine.{HasStepped, MachineState, RunsOut, ending_held, ending_of_held, machine_of, prints_by}
+use Rattle.residue_machine.proofs.PutLemmas.{RunsOut-more, RunsOut-none, put-failed, run-again, run-ended, run-fresh}
+use Rattle.residue_machine.proofs.StepLemmas.{step-own, still_on}
 use Rattle.residue_machine.proofs.machine.Machine.run_on.Goals as goal
 use Rattle.residue_machine.proofs.machine.Machine.run_on.Goals.{in-On, in-Print+in-Done}
 
 pub returns-in-Some : goal.returns-in-Some
 returns-in-Some g c =
     let s = c.self.inside in
-    let old : MachineState g.row.R.Denot g.row.D.Denot = record { channels = s.channels; control = s.position; taken = s.taken; ended = ending_held s.ended } in
-    run-again g.R.Rack radius None g.K.Sink.puts g.K.Sink.state c.args.steps c.args.self.now old c.args.sink.now (ending_of_held c.in-Some.ended) c.ending.result c.self.view_is (ap ending_held c.in-Some.is) c.ending.ensures
+    run-again g.R.Rack radius None g.K.Sink.puts g.K.Sink.state c.args.steps c.args.self.now (machine_of s.channels s.position s.taken s.ended) c.args.sink.now (ending_of_held c.in-Some.ended) c.ending.result c.self.view_is (ap ending_held c.in-Some.is) c.ending.ensures
 
 pub returns-in-Failed : goal.returns-in-Failed
 returns-in-Failed g c =
@@ -46,44 +44,25 @@ returns-in-Failed g c =
 pub returns-in-Halt : goal.returns-in-Halt
 returns-in-Halt g c =
     let inv = c.turns.invariant in
-    let mid = c.go_on.new.self in
-    let left = c.args.steps - (c.turns._done + 1) in
     let less = c.turns-test.true in
-    let more : suc left ≡ c.args.steps - c.turns._done = omega (arith, less) in
-    let h = step-own g.R.Rack radius None c.turns.self mid stepped.Halt inv.on c.in-Halt.ensures in
-    let off = is_over g.R.Rack radius None c.turns.self mid stepped.Halt h refl in
-    run-fresh g.R.Rack radius None g.K.Sink.puts g.K.Sink.state c.args.steps c.args.self.now mid c.args.sink.now c.turns.sink ending.Halt inv.fresh
-    (inv.whole ending.Halt mid c.turns.sink
-    (subst (λ (n : ℕ). RunsOut g.R.Rack radius None g.R.Rack.IsUnderWay g.K.Sink.puts g.K.Sink.state n c.turns.self c.turns.sink ending.Halt mid c.turns.sink) more
-    (came-last g.R.Rack radius None g.K.Sink.puts g.K.Sink.state left c.turns.self mid stepped.Halt trace.halt ending.Halt c.turns.sink h off refl refl)))
+    run-ended g.R.Rack radius None g.K.Sink.puts g.K.Sink.state c.args.steps (c.args.steps - c.turns._done) c.args.self.now c.turns.self c.go_on.new.self c.args.sink.now c.turns.sink
+    stepped.Halt ending.Halt (omega (arith, less)) inv.fresh inv.on c.in-Halt.ensures refl refl refl inv.whole
 
 pub returns-in-Trap : goal.returns-in-Trap
 returns-in-Trap g c =
     let inv = c.turns.invariant in
-    let mid = c.go_on.new.self in
-    let left = c.args.steps - (c.turns._done + 1) in
     let less = c.turns-test.true in
-    let more : suc left ≡ c.args.steps - c.turns._done = omega (arith, less) in
-    let h = step-own g.R.Rack radius None c.turns.self mid (stepped.Trap c.in-Trap.kind c.in-Trap.line) inv.on c.in-Trap.ensures in
-    let off = is_over g.R.Rack radius None c.turns.self mid (stepped.Trap c.in-Trap.kind c.in-Trap.line) h refl in
-    run-fresh g.R.Rack radius None g.K.Sink.puts g.K.Sink.state c.args.steps c.args.self.now mid c.args.sink.now c.turns.sink (ending.Trap c.in-Trap.kind c.in-Trap.line) inv.fresh
-    (inv.whole (ending.Trap c.in-Trap.kind c.in-Trap.line) mid c.turns.sink
-    (subst (λ (n : ℕ). RunsOut g.R.Rack radius None g.R.Rack.IsUnderWay g.K.Sink.puts g.K.Sink.state n c.turns.self c.turns.sink (ending.Trap c.in-Trap.kind c.in-Trap.line) mid c.turns.sink) more
-    (came-last g.R.Rack radius None g.K.Sink.puts g.K.Sink.state left c.turns.self mid (stepped.Trap c.in-Trap.kind c.in-Trap.line) (trace.trap c.in-Trap.kind c.in-Trap.line) (ending.Trap c.in-Trap.kind c.in-Trap.line) c.turns.sink h off refl refl)))
+    let trap = c.in-Trap in
+    run-ended g.R.Rack radius None g.K.Sink.puts g.K.Sink.state c.args.steps (c.args.steps - c.turns._done) c.args.self.now c.turns.self c.go_on.new.self c.args.sink.now c.turns.sink
+    (stepped.Trap trap.kind trap.line) (ending.Trap trap.kind trap.line) (omega (arith, less)) inv.fresh inv.on trap.ensures refl refl refl inv.whole
 
 pub returns-in-Damage : goal.returns-in-Damage
 returns-in-Damage g c =
     let inv = c.turns.invariant in
-    let mid = c.go_on.new.self in
-    let left = c.args.steps - (c.turns._done + 1) in
     let less = c.turns-test.true in
-    let more : suc left ≡ c.args.steps - c.turns._done = omega (arith, less) in
-    let h = step-own g.R.Rack radius None c.turns.self mid (stepped.Damage c.in-Damage.number c.in-Damage.column) inv.on c.in-Damage.ensures in
-    let off = is_over g.R.Rack radius None c.turns.self mid (stepped.Damage c.in-Damage.number c.in-Damage.column) h refl in
-    run-fresh g.R.Rack radius None g.K.Sink.puts g.K.Sink.state c.args.steps c.args.self.now mid c.args.sink.now c.turns.sink (ending.Damage c.in-Damage.number c.in-Damage.column) inv.fresh
-    (inv.whole (ending.Damage c.in-Damage.number c.in-Damage.column) mid c.turns.sink
-    (subst (λ (n : ℕ). RunsOut g.R.Rack radius None g.R.Rack.IsUnderWay g.K.Sink.puts g.K.Sink.state n c.turns.self c.turns.sink (ending.Damage c.in-Damage.number c.in-Damage.column) mid c.turns.sink) more
-    (came-last g.R.Rack radius None g.K.Sink.puts g.K.Sink.state left c.turns.self mid (stepped.Damage c.in-Damage.number c.in-Damage.column) (trace.damage c.in-Damage.number c.in-Damage.column) (ending.Damage c.in-Damage.number c.in-Damage.column) c.turns.sink h off refl refl)))
+    let damage = c.in-Damage in
+    run-ended g.R.Rack radius None g.K.Sink.puts g.K.Sink.state c.args.steps (c.args.steps - c.turns._done) c.args.self.now c.turns.self c.go_on.new.self c.args.sink.now c.turns.sink
+    (stepped.Damage damage.number damage.column) (ending.Damage damage.number damage.column) (omega (arith, less)) inv.fresh inv.on damage.ensures refl refl refl inv.whole
 
 pub turns-preserved : goal.turns-preserved
 turns-preserved g c =

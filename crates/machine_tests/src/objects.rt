@@ -1,6 +1,6 @@
-use super::*;
 use machine_table::{Instr, Object};
 use moduli_sets::SetName;
+use object_bytes::{read, write};
 use std::test::*;
 
 #[test]
