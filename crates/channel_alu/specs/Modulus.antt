@@ -1,5 +1,7 @@
 -- The moduli of the channel types.
 use Rattle.std.specs.Prelude.{ℕ, ◌+◌, ◌-◌, ◌^◌, nat_le, ◌&&◌, if◌then◌else◌}
+use Rattle.channel_alu.specs.declared.any.AnyChannel.{AnyChannel}
+use Rattle.channel_alu.specs.declared.any.AnyChannel.TheVariants.{Plain, Ones4, Power4, Plus4, Ones8, Power8, Plus8, Ones15, Power15, Plus15}
 
 -- the modulus of `Plain<P>`: P where it is 2 to 65,535, and otherwise 2
 abbrev pub plain_modulus : ℕ → ℕ
@@ -24,3 +26,16 @@ ones_bits k = if nat_le 2 k && nat_le k 16 then k else 2
 -- the number of bits that aren't carried out in `Power<K>` and `Plus<K>`
 abbrev pub power_bits : ℕ → ℕ
 power_bits k = if nat_le 1 k && nat_le k 15 then k else 1
+
+-- the modulus of a channel that is known only at run time
+abbrev pub any_modulus : AnyChannel → ℕ
+any_modulus (Plain p) = plain_modulus p
+any_modulus (Ones4 channel) = ones_modulus 4
+any_modulus (Power4 channel) = power_modulus 4
+any_modulus (Plus4 channel) = plus_modulus 4
+any_modulus (Ones8 channel) = ones_modulus 8
+any_modulus (Power8 channel) = power_modulus 8
+any_modulus (Plus8 channel) = plus_modulus 8
+any_modulus (Ones15 channel) = ones_modulus 15
+any_modulus (Power15 channel) = power_modulus 15
+any_modulus (Plus15 channel) = plus_modulus 15

@@ -4,7 +4,7 @@ ghost use Rattle.channel_lane.specs.Meaning.{CanPerform};
 
 use channel_alu::{MicroOp, Place, Plain, Plus, Power};
 use fault_book::Faults;
-use lane_bank::{Bank, Cons, Nil, PocketBank, perform_in_all};
+use lane_bank::{AnyBank, Bank, Cons, Nil, PocketBank, perform_in_all};
 use moduli_sets::{Moduli, SetName, Vector};
 use std::alloc::{AllocError, Global};
 use std::test::Fail;
@@ -84,6 +84,37 @@ fn banks(rt: HostRuntime) -> Result<(), Fail> {
         &divide,
         &[9, 11, 12, 13, 15],
         &[(9, 1), (14, 2), (12, 1), (13, 1), (15, 1)],
+    )?;
+    assert!(rt; is_well);
+    Ok(())
+}
+
+#[test]
+fn bank_of_any_set(rt: HostRuntime) -> Result<(), Fail> {
+    // -42 is 32,665 modulo 32,707, and (-42 - 32,665) / 32,707 is -1
+    let divide = MicroOp::Unscale {
+        to: TO,
+        from: FIRST,
+        channel: 0,
+        take: 32665,
+        give: 32706,
+    };
+    let is_well = performs::<AnyBank>(
+        rt.alloc(),
+        SetName::Hall,
+        &[-42],
+        &divide,
+        &[32706, 32712, 32716, 32718, 32748, 32766, 32767, 32768],
+        &[
+            (32706, 1),
+            (44, 2),
+            (32716, 1),
+            (32718, 1),
+            (32748, 1),
+            (32766, 1),
+            (32767, 1),
+            (32768, 1),
+        ],
     )?;
     assert!(rt; is_well);
     Ok(())

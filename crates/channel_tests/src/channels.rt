@@ -1,14 +1,13 @@
 ghost use Rattle.std.specs.Prelude.{◌<◌, ◌≤◌};
 
-use channel_alu::{Channel, FixedChannel, Ones, Plain, Plus, Power};
+use channel_alu::{AnyChannel, Channel, FixedChannel, Ones, Plain, Plus, Power};
 
 /// The modulus of a channel, and then a + b, a - b, a * b, -a, a * b + c and (a - b) * c in it.
-fn operations<C: FixedChannel>(a: u32, b: u32, c: u32) -> [u32; 7]
-    requires first { a < C.MODULUS }
-    requires second { b < C.MODULUS }
-    requires third { c < C.MODULUS }
+fn operations_of<C: Channel>(channel: &C, a: u32, b: u32, c: u32) -> [u32; 7]
+    requires first { a < C.modulus channel.now }
+    requires second { b < C.modulus channel.now }
+    requires third { c < C.modulus channel.now }
 {
-    let channel = C::new();
     [
         channel.modulus(),
         channel.add(a, b),
@@ -18,6 +17,15 @@ fn operations<C: FixedChannel>(a: u32, b: u32, c: u32) -> [u32; 7]
         channel.mul_add(a, b, c),
         channel.unscale(a, b, c),
     ]
+}
+
+/// Those of the channel of a type.
+fn operations<C: FixedChannel>(a: u32, b: u32, c: u32) -> [u32; 7]
+    requires first { a < C.MODULUS }
+    requires second { b < C.MODULUS }
+    requires third { c < C.MODULUS }
+{
+    operations_of(&C::new(), a, b, c)
 }
 
 /// The same by `%`.
@@ -60,6 +68,31 @@ fn small_moduli(rt: HostRuntime) {
     assert!(rt; are_remainders::<Ones<4>>());
     assert!(rt; are_remainders::<Power<4>>());
     assert!(rt; are_remainders::<Plus<4>>());
+}
+
+/// Whether the operations of the channel of a modulus that is known only at run time are the remainders at its greatest
+/// residues.
+fn greatest_are_remainders(modulus: u32) -> bool
+    requires low { 4 ≤ modulus }
+    requires high { modulus ≤ 65535 }
+{
+    let [a, b, c] = [modulus - 1, modulus - 2, modulus - 3];
+    operations_of(&AnyChannel::of(modulus), a, b, c) == remainders(modulus, a, b, c)
+}
+
+#[test]
+fn moduli_known_at_run_time(rt: HostRuntime) {
+    assert!(rt; greatest_are_remainders(13));
+    assert!(rt; greatest_are_remainders(15));
+    assert!(rt; greatest_are_remainders(16));
+    assert!(rt; greatest_are_remainders(17));
+    assert!(rt; greatest_are_remainders(255));
+    assert!(rt; greatest_are_remainders(256));
+    assert!(rt; greatest_are_remainders(257));
+    assert!(rt; greatest_are_remainders(32767));
+    assert!(rt; greatest_are_remainders(32768));
+    assert!(rt; greatest_are_remainders(32769));
+    assert!(rt; greatest_are_remainders(65535));
 }
 
 // The expected numbers were computed in Python.

@@ -1,7 +1,7 @@
 -- Lanes of a bank, one after another.
-use Rattle.std.proofs.Common.{◌≡◌, ℕ, suc, slice_index, ◌+◌, ◌-◌, ◌<◌, All, List, [], ◌∷◌, ◌++◌, map, take, drop, length, get_or, refl, sym, ap, ◌∙◌, subst, arith, ℤ}
+use Rattle.std.proofs.Common.{◌≡◌, ℕ, zero, suc, slice_index, ◌+◌, ◌-◌, ◌<◌, ◌≤◌, All, List, [], ◌∷◌, ◌++◌, map, take, drop, length, get_or, refl, sym, ap, ◌∙◌, subst, arith, ℤ}
 use Rattle.std.specs.List.{range_with_len}
-use Rattle.std.proofs.lemmas.List.{get_or-map, length-map, length-take-le, length-drop, length-append, get_or_default, map_more}
+use Rattle.std.proofs.lemmas.List.{get_or-map, length-map, map-append, length-take-le, length-drop, length-append, get_or_default, map_more}
 use Rattle.std.proofs.lemmas.List.Edits.{map_over_more}
 use Rattle.std.proofs.lemmas.List.Elements.{All-from_get_or, All-get_or, All-map}
 use Rattle.std.proofs.Math.ListN.{set}
@@ -145,3 +145,27 @@ AreResidues-column book s start ops op rules =
     get_or-map (answer_of book op) (map run lanes) i (run no_lane) 0 (omega (arith, many))
     ∙ ap (answer_of book op) (get_or-map run lanes i no_lane (run no_lane) (omega (arith, count)) ∙ ap run here) in
     omega (arith, below, modulus, answer))
+
+-- one lane more at the end of new lanes
+range_with_len-more : (a n : ℕ) → range_with_len a (suc n) ≡ range_with_len a n ++ (a + n) ∷ []
+range_with_len-more a zero = ap (λ x. x ∷ []) (omega arith)
+range_with_len-more a (suc n) = ap (λ rest. a ∷ rest) (range_with_len-more (a + 1) n ∙ ap (λ x. range_with_len (a + 1) n ++ x ∷ []) (omega arith))
+
+pub new_lane_more : (s : ModuliSet) (start : List ℤ) (first channel : ℕ) (lanes longer : List LaneState) (lane : LaneState) → first ≤ channel
+    → lanes ≡ map (lane_at_start s start) (range_with_len first (channel - first)) → longer ≡ lanes ++ lane ∷ [] → lane ≡ lane_at_start s start channel
+    → longer ≡ map (lane_at_start s start) (range_with_len first (channel + 1 - first))
+new_lane_more s start first channel lanes longer lane h are push is =
+    let new = lane_at_start s start in
+    let n = channel - first in
+    let one_more : suc n ≡ channel + 1 - first = omega arith in
+    let last : channel ≡ first + n = omega arith in
+    push ∙ ap (λ front. front ++ lane ∷ []) are
+    ∙ ap (λ l. map new (range_with_len first n) ++ l ∷ []) (is ∙ ap new last)
+    ∙ sym (map-append new (range_with_len first n) ((first + n) ∷ []))
+    ∙ ap (map new) (sym (range_with_len-more first n))
+    ∙ ap (λ k. map new (range_with_len first k)) one_more
+
+-- and with those of all channels they are the new lanes
+pub new_lanes : (s : ModuliSet) (start : List ℤ) (first channel : ℕ) → channel - first ≡ length s.moduli - first
+    → map (lane_at_start s start) (range_with_len first (channel - first)) ≡ lanes_at_start s first start
+new_lanes s start first channel e = ap (λ n. map (lane_at_start s start) (range_with_len first n)) e
