@@ -12,7 +12,7 @@ use Rattle.micro_plan.specs.ActTree.{Acts, issue, ask, print, go_on, end_by}
 use Rattle.micro_plan.specs.Acts.{acts_of}
 
 -- up to the first place for which no integer is told
-abbrev operations : List ℤ → Acts → List MicroOp
+abbrev pub operations : List ℤ → Acts → List MicroOp
 operations told (issue op acts) = op ∷ operations told acts
 operations [] (ask place acts) = Show place ∷ []
 operations (x ∷ told) (ask place acts) = Show place ∷ operations told (acts x)

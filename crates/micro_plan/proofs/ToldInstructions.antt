@@ -15,10 +15,11 @@ use Rattle.moduli_sets.specs.declared.kind.Kind.TheVariants.{Zero, Index, Range,
 use Rattle.channel_alu.specs.declared.operation.Place.{Place}
 use Rattle.channel_alu.specs.declared.operation.Place.TheVariants.{Reg, Word}
 use Rattle.channel_alu.specs.declared.operation.MicroOp.TheVariants as micro
+use Rattle.channel_lane.specs.Meaning.{with_integer}
 use Rattle.machine_table.specs.declared.instr.Instr.{Instr}
 use Rattle.machine_table.specs.declared.instr.Instr.TheVariants.{Halt, Ldi, Ld, St, Ldx, Stx, Mov, Add, Sub, Mul, Neg, Mac, Div, Mod, Scl, Jmp, Blt, Beq, Chk, In, Out, Call, Ret, Trp}
 use Rattle.machine_table.specs.Control.{Control, next, with_input, with_places, most_places, traps, lies_in, is_negative, is_zero}
-use Rattle.machine_table.specs.Integers.{Memory, IntegerRun, stands, unfit, with_register, with_word, computes, divides, reads, returns, is_index, step, IsFit}
+use Rattle.machine_table.specs.Integers.{IntegerRun, stands, unfit, with_register, computes, divides, reads, returns, is_index, step, IsFit}
 use Rattle.machine_table.specs.Operands.{Shape, IsSoundOperand, operands_of}
 use Rattle.micro_plan.specs.ActTree.{Acts, go_on, end_by}
 use Rattle.micro_plan.specs.Division.{division_acts, quotient_plan_or, remainder_plan_or, quotient_acts, remainder_acts, sign_acts, turning_acts, counting_acts, is_turned}
@@ -66,14 +67,20 @@ passed : (t : Bool) (run : IntegerRun) → IsFit (if t then run else unfit) → 
 passed true run fit = (refl, refl)
 passed false run fit = absurd fit
 
+-- ---- one operation
+-- it leaves x at a place
+put-comes : (set : ModuliSet) (to : Place) (x : ℤ) (control : Control) (at : Place → ℤ) → AreInRange set at → IsInRange set x
+    → ComesTo set (issues (micro.Put to x) control) at (stands (next control) (memory_of (with_integer at to x)))
+put-comes set to x control at fits in_x = (refl, (tt, AreInRange-with set at to x fits in_x, tt))
+
 -- what the integer machine computes is in range
-computed : (set : ModuliSet) (a : ℕ) (x : ℤ) (control : Control) (memory : Memory) → IsFit (computes set a x control memory)
-    → IsInRange set x × (computes set a x control memory ≡ stands (next control) (with_register a x memory))
-computed set a x control memory fit =
+computes-comes : (set : ModuliSet) (a : ℕ) (x : ℤ) (control : Control) (at : Place → ℤ) → AreInRange set at → IsFit (computes set a x control (memory_of at))
+    → ComesTo set (issues (micro.Put (Reg a) x) control) at (computes set a x control (memory_of at))
+computes-comes set a x control at fits fit =
     let bound = pos (range_bound set) in
-    let p = passed (lies_in (neg_ℤ bound) bound x) (stands (next control) (with_register a x memory)) fit in
+    let p = passed (lies_in (neg_ℤ bound) bound x) (stands (next control) (with_register a x (memory_of at))) fit in
     let ends = within (neg_ℤ bound) bound x p.0 in
-    (record { low = ends.0; high = ends.1 }, p.1)
+    (sym p.1, (put-comes set (Reg a) x control at fits (record { low = ends.0; high = ends.1 })).1)
 
 -- ---- reading and returning
 reads-comes : (set : ModuliSet) (a : ℕ) (low high : ℤ) (line : ℕ) (input : List ℤ) (control : Control) (at : Place → ℤ) → IsInRange set low → IsInRange set high → AreInRange set at
@@ -83,7 +90,7 @@ reads-comes set a low high line (x ∷ rest) control at l h fits =
     ComesTo-or_end set (lies_in low high x) (issues (micro.Put (Reg a) x) (with_input rest control)) (traps InputRange line) at
     (stands (next (with_input rest control)) (with_register a x (memory_of at)))
     (λ e. let ends = within low high x e in
-    (refl, (tt, AreInRange-with set at (Reg a) x fits (IsInRange-between set low high x l h ends.0 ends.1), tt)))
+    put-comes set (Reg a) x (with_input rest control) at fits (IsInRange-between set low high x l h ends.0 ends.1))
 
 returns-comes : (set : ModuliSet) (line : ℕ) (places : List ℕ) (control : Control) (at : Place → ℤ) → ComesTo set (return_acts line places control) at (returns line places control (memory_of at))
 returns-comes set line [] control at = (refl, tt)
@@ -127,41 +134,31 @@ step_by : (shape : Shape) (instr : Instr) (control : Control) (at : Place → �
     → IsFit (step shape.set instr control (memory_of at)) → ComesTo shape.set (acts_of shape.set instr control) at (step shape.set instr control (memory_of at))
 step_by shape Halt control at rules sound fits fit = (refl, tt)
 step_by shape (Ldi a value) control at rules sound fits fit =
-    (refl, (tt, AreInRange-with shape.set at (Reg a) value fits sound.1.0, tt))
+    put-comes shape.set (Reg a) value control at fits sound.1.0
 step_by shape (Ld a p) control at rules sound fits fit =
-    (refl, (tt, AreInRange-with shape.set at (Reg a) (at (Word p)) fits (fits (Word p)), tt))
+    put-comes shape.set (Reg a) (at (Word p)) control at fits (fits (Word p))
 step_by shape (St a p) control at rules sound fits fit =
-    (refl, (tt, AreInRange-with shape.set at (Word p) (at (Reg a)) fits (fits (Reg a)), tt))
+    put-comes shape.set (Word p) (at (Reg a)) control at fits (fits (Reg a))
 step_by shape (Ldx a b p q line) control at rules sound fits fit =
-    let place = p + unsigned_abs (at (Reg b)) in
-    ComesTo-or_end shape.set (is_index q (at (Reg b))) (issues (micro.Copy (Reg a) (Word place)) control) (traps Index line) at
-    (stands (next control) (with_register a (at (Word place)) (memory_of at)))
-    (λ e. (refl, (tt, AreInRange-with shape.set at (Reg a) (at (Word place)) fits (fits (Word place)), tt)))
+    let place = Word (p + unsigned_abs (at (Reg b))) in
+    ComesTo-or_end shape.set (is_index q (at (Reg b))) (issues (micro.Copy (Reg a) place) control) (traps Index line) at _
+    (λ e. put-comes shape.set (Reg a) (at place) control at fits (fits place))
 step_by shape (Stx a b p q line) control at rules sound fits fit =
-    let place = p + unsigned_abs (at (Reg b)) in
-    ComesTo-or_end shape.set (is_index q (at (Reg b))) (issues (micro.Copy (Word place) (Reg a)) control) (traps Index line) at
-    (stands (next control) (with_word place (at (Reg a)) (memory_of at)))
-    (λ e. (refl, (tt, AreInRange-with shape.set at (Word place) (at (Reg a)) fits (fits (Reg a)), tt)))
+    let place = Word (p + unsigned_abs (at (Reg b))) in
+    ComesTo-or_end shape.set (is_index q (at (Reg b))) (issues (micro.Copy place (Reg a)) control) (traps Index line) at _
+    (λ e. put-comes shape.set place (at (Reg a)) control at fits (fits (Reg a)))
 step_by shape (Mov a b) control at rules sound fits fit =
-    (refl, (tt, AreInRange-with shape.set at (Reg a) (at (Reg b)) fits (fits (Reg b)), tt))
+    put-comes shape.set (Reg a) (at (Reg b)) control at fits (fits (Reg b))
 step_by shape (Add a b c) control at rules sound fits fit =
-    let x = at (Reg b) +ℤ at (Reg c) in
-    let k = computed shape.set a x control (memory_of at) fit in
-    (sym k.1, (tt, AreInRange-with shape.set at (Reg a) x fits k.0, tt))
+    computes-comes shape.set a (at (Reg b) +ℤ at (Reg c)) control at fits fit
 step_by shape (Sub a b c) control at rules sound fits fit =
-    let x = at (Reg b) -ℤ at (Reg c) in
-    let k = computed shape.set a x control (memory_of at) fit in
-    (sym k.1, (tt, AreInRange-with shape.set at (Reg a) x fits k.0, tt))
+    computes-comes shape.set a (at (Reg b) -ℤ at (Reg c)) control at fits fit
 step_by shape (Mul a b c) control at rules sound fits fit =
-    let x = at (Reg b) *ℤ at (Reg c) in
-    let k = computed shape.set a x control (memory_of at) fit in
-    (sym k.1, (tt, AreInRange-with shape.set at (Reg a) x fits k.0, tt))
+    computes-comes shape.set a (at (Reg b) *ℤ at (Reg c)) control at fits fit
 step_by shape (Neg a b) control at rules sound fits fit =
-    (refl, (tt, AreInRange-with shape.set at (Reg a) (neg_ℤ (at (Reg b))) fits (IsInRange-neg shape.set (at (Reg b)) (fits (Reg b))), tt))
+    put-comes shape.set (Reg a) (neg_ℤ (at (Reg b))) control at fits (IsInRange-neg shape.set (at (Reg b)) (fits (Reg b)))
 step_by shape (Mac a b c) control at rules sound fits fit =
-    let x = (at (Reg b) *ℤ at (Reg c)) +ℤ at (Reg a) in
-    let k = computed shape.set a x control (memory_of at) fit in
-    (sym k.1, (tt, AreInRange-with shape.set at (Reg a) x fits k.0, tt))
+    computes-comes shape.set a ((at (Reg b) *ℤ at (Reg c)) +ℤ at (Reg a)) control at fits fit
 step_by shape (Div a b c line) control at rules sound fits fit = quotient_plan-comes None shape.set a b c line control at rules fits
 step_by shape (Mod a b c line) control at rules sound fits fit = remainder_plan-comes None shape.set a b c line control at rules fits
 step_by shape (Scl a b s) control at rules sound fits fit =

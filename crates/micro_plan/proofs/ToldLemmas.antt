@@ -19,14 +19,9 @@ ComesTo set acts at run = (integers_by set.moduli acts at ≡ run) × StayTrue s
 pub issued : {A B C D : Type 0} → C → D → A × B → A × (C × D × B)
 issued exact fits m = (m.0, (exact, fits, m.1))
 
--- a test that passes, and one that fails
-pub ComesTo-if : (set : ModuliSet) (t : Bool) (if_so if_not : Acts) (at : Place → ℤ) (run : IntegerRun) → t ≡ true → ComesTo set if_so at run → ComesTo set (if t then if_so else if_not) at run
-ComesTo-if set true if_so if_not at run e m = m
-ComesTo-if set false if_so if_not at run e m = cc
-
-pub ComesTo-else : (set : ModuliSet) (t : Bool) (if_so if_not : Acts) (at : Place → ℤ) (run : IntegerRun) → t ≡ false → ComesTo set if_not at run → ComesTo set (if t then if_so else if_not) at run
-ComesTo-else set true if_so if_not at run e m = cc
-ComesTo-else set false if_so if_not at run e m = m
+-- acts by what a test says
+pub ComesTo-test : (set : ModuliSet) (t u : Bool) (if_so if_not : Acts) (at : Place → ℤ) (run : IntegerRun) → t ≡ u → ComesTo set (if u then if_so else if_not) at run → ComesTo set (if t then if_so else if_not) at run
+ComesTo-test set t u if_so if_not at run e m = subst (λ (b : Bool). ComesTo set (if b then if_so else if_not) at run) (sym e) m
 
 -- acts where a test passes, and else an end; and the other way round
 pub ComesTo-or_end : (set : ModuliSet) (t : Bool) (acts : Acts) (end : End) (at : Place → ℤ) (run : IntegerRun) → (t ≡ true → ComesTo set acts at run) → ComesTo set (if t then acts else end_by end) at (if t then run else stops end)

@@ -11,7 +11,7 @@ use Rattle.name_check.specs.declared.fault.NameFault.{NameFault}
 use Rattle.name_check.specs.Names.{as_array, expr_faults, faults_of_expr_node}
 use Rattle.name_check.specs.Reported.{IsReported, Walks}
 use Rattle.name_check.specs.Ties.{Ties, expr_ties, name_ties, ties_of_expr_node}
-use Rattle.name_check.proofs.FoldEquations.{fold-Element, fold-Binary}
+use Rattle.source_tree.proofs.FoldEquations.{fold-Element, fold-Binary}
 use Rattle.name_check.proofs.WalkLemmas.{stops, walks_on}
 
 module _ (e : Expr) (scope : Scope) where

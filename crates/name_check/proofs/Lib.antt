@@ -1,5 +1,4 @@
 mod ExpressionLemmas
-pub mod FoldEquations
 mod RestLemmas
 mod RowsCalls
 mod RowsDeclarations

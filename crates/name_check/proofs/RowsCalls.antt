@@ -9,7 +9,7 @@ use Rattle.source_tree.proofs.RowsBasis.{from_to, named}
 use Rattle.name_check.specs.declared.fault.NameFault.TheVariants.{Arity, Unknown, WrongKind}
 use Rattle.name_check.specs.Names.{name_faults}
 use Rattle.name_check.specs.Ties.{ties_of}
-use Rattle.name_check.proofs.FoldEquations.{fold-Number, fold-Name, fold-Binary, fold-Call}
+use Rattle.source_tree.proofs.FoldEquations.{fold-Number, fold-Name, fold-Binary, fold-Call}
 
 -- f();
 abbrev unknown_called : Program

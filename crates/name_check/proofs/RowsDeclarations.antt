@@ -9,7 +9,7 @@ use Rattle.source_tree.proofs.RowsBasis.{from_to, named}
 use Rattle.name_check.specs.declared.fault.NameFault.TheVariants.{BadRange, EmptyArray, TooMany, Twice, Unknown}
 use Rattle.name_check.specs.Names.{name_faults}
 use Rattle.name_check.specs.Ties.{ties_of}
-use Rattle.name_check.proofs.FoldEquations.{fold-Name, fold-Print, fold-Call}
+use Rattle.source_tree.proofs.FoldEquations.{fold-Name, fold-Print, fold-Call}
 
 -- var x: 0..9;
 -- var

@@ -10,7 +10,7 @@ use Rattle.source_tree.proofs.RowsBasis.{from_to, named}
 use Rattle.name_check.specs.declared.fault.NameFault.TheVariants.{LoopAssigned, Unknown, WrongKind}
 use Rattle.name_check.specs.Names.{name_faults}
 use Rattle.name_check.specs.Ties.{ties_of}
-use Rattle.name_check.proofs.FoldEquations.{fold-Number, fold-Name, fold-Assign, fold-Print, fold-Read, fold-If, fold-For, fold-While, fold-Call}
+use Rattle.source_tree.proofs.FoldEquations.{fold-Number, fold-Name, fold-Assign, fold-Print, fold-Read, fold-If, fold-For, fold-While, fold-Call}
 
 -- for i := 1 to 2 do end
 abbrev unknown_counter : Program

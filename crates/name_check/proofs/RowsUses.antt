@@ -11,7 +11,7 @@ use Rattle.source_tree.proofs.RowsBasis.{from_to, named}
 use Rattle.name_check.specs.declared.fault.NameFault.TheVariants.{Unknown, WrongKind}
 use Rattle.name_check.specs.Names.{name_faults}
 use Rattle.name_check.specs.Ties.{ties_of}
-use Rattle.name_check.proofs.FoldEquations.{fold-Number, fold-Name, fold-Element, fold-Neg, fold-Binary, fold-Assign, fold-Print, fold-Read, fold-If, fold-While}
+use Rattle.source_tree.proofs.FoldEquations.{fold-Number, fold-Name, fold-Element, fold-Neg, fold-Binary, fold-Assign, fold-Print, fold-Read, fold-If, fold-While}
 
 -- print x;
 abbrev unknown_name : Program

@@ -9,7 +9,7 @@ use Rattle.source_tree.proofs.RowsBasis.{from_to, named}
 use Rattle.name_check.specs.declared.fault.NameFault.TheVariants.{Unknown}
 use Rattle.name_check.specs.Names.{name_faults}
 use Rattle.name_check.specs.Ties.{ties_of}
-use Rattle.name_check.proofs.FoldEquations.{fold-Number, fold-Name, fold-Assign, fold-Print, fold-Call}
+use Rattle.source_tree.proofs.FoldEquations.{fold-Number, fold-Name, fold-Assign, fold-Print, fold-Call}
 
 -- proc p(p: 0..9) do print p; end
 -- p(1);

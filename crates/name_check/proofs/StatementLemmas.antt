@@ -13,7 +13,7 @@ use Rattle.name_check.specs.declared.fault.NameFault.{NameFault}
 use Rattle.name_check.specs.Names.{Faults, Loops, faults_of_node, statement_faults}
 use Rattle.name_check.specs.Reported.{IsReported, Walks}
 use Rattle.name_check.specs.Ties.{Ties, ties_of_node, statement_ties}
-use Rattle.name_check.proofs.FoldEquations.{fold-Assign, fold-If, fold-For, fold-While, fold-Call}
+use Rattle.source_tree.proofs.FoldEquations.{fold-Assign, fold-If, fold-For, fold-While, fold-Call}
 use Rattle.name_check.proofs.WalkLemmas.{reports}
 
 -- a statement has these faults and ties

@@ -22,7 +22,7 @@ use Rattle.source_tree.specs.declared.statement.Statement.{Statement, Assign, Pr
 use Rattle.source_tree.specs.declared.statement.Statement.TheOpen as statement
 use Rattle.source_tree.proofs.Inductions.{EachOf, each_of, each_expr, each_statement}
 use Rattle.name_check.specs.Ties.{Ties, number_of, tie, name_ties, all_ties, ties_of_expr_node, expr_ties, condition_ties, place_ties, ties_of_node, statement_ties, declaration_ties, ties_of_rest, ties_of}
-use Rattle.name_check.proofs.FoldEquations.{fold-Number, fold-Name, fold-Element, fold-Neg, fold-Binary, fold-Assign, fold-Print, fold-Read, fold-If, fold-For, fold-While, fold-Call}
+use Rattle.source_tree.proofs.FoldEquations.{fold-Number, fold-Name, fold-Element, fold-Neg, fold-Binary, fold-Assign, fold-Print, fold-Read, fold-If, fold-For, fold-While, fold-Call}
 
 each_append : {A : Type 0} (P : A → Type 0) (a b : List A) → EachOf P a → EachOf P b → EachOf P (a ++ b)
 each_append P [] b h k = k

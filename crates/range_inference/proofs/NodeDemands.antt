@@ -20,7 +20,7 @@ use Rattle.range_inference.specs.declared.fault.RangeFault.TheVariants.{TooWide}
 use Rattle.range_inference.specs.declared.interval.Interval.{Interval}
 use Rattle.range_inference.proofs.Passing.{all_demands-map}
 use Rattle.range_inference.proofs.Judging.{Two, Three}
-use Rattle.name_check.proofs.FoldEquations.{fold-Number, fold-Name, fold-Element, fold-Neg, fold-Binary, fold-Assign, fold-If, fold-For, fold-While}
+use Rattle.source_tree.proofs.FoldEquations.{fold-Number, fold-Name, fold-Element, fold-Neg, fold-Binary, fold-Assign, fold-If, fold-For, fold-While}
 
 abbrev IsSame : Expr → Type 0
 IsSame e = (judged e).interval ≡ interval_of e

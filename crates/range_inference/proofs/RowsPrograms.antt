@@ -15,7 +15,7 @@ use Rattle.source_tree.specs.declared.statement.Statement.{Assign, Print, While}
 use Rattle.range_inference.specs.Bound.{bound_of}
 use Rattle.range_inference.specs.Demands.{Demand, node, limit, Judged, judged_node, judged, expr_demands, statement_demands, demands_of, wide_lines, too_wide, intervals_in, demands_of_node}
 use Rattle.range_inference.specs.Interval.{Ranges, from_to}
-use Rattle.name_check.proofs.FoldEquations.{fold-Number, fold-Name, fold-Element, fold-Binary, fold-Assign, fold-Print, fold-While}
+use Rattle.source_tree.proofs.FoldEquations.{fold-Number, fold-Name, fold-Element, fold-Binary, fold-Assign, fold-Print, fold-While}
 
 abbrev x : ℕ → SourceName
 x line = record { bytes = 120 ∷ []; line = line }

@@ -17,7 +17,7 @@ use Rattle.source_tree.specs.declared.name.Range.{Range}
 use Rattle.source_tree.specs.declared.expression.Operator.{Operator}
 use Rattle.source_tree.specs.declared.expression.Expr.{Expr, Number, Name, Element, Neg, Binary}
 use Rattle.source_tree.specs.declared.expression.Expr.TheOpen as expr
-use Rattle.source_tree.proofs.Equations.{evaluation-Number, evaluation-Name, evaluation-Element, evaluation-Neg, evaluation-Binary}
+use Rattle.source_tree.proofs.FoldEquations.{fold-Number, fold-Name, fold-Element, fold-Neg, fold-Binary}
 use Rattle.source_tree.proofs.Inductions.{each_expr}
 use Rattle.source_tree.proofs.RunLaws.{and_then_agrees, and_then_returns, leads_weaker}
 use Rattle.range_inference.specs.Demands.{Demand, node, Judged, judged_node, judged, expr_demands}
@@ -27,7 +27,6 @@ use Rattle.range_inference.specs.declared.interval.Interval.{Interval}
 use Rattle.range_inference.proofs.OperatorLemmas.{Lies, within_self, within_neg, operator_lands}
 use Rattle.range_inference.proofs.Passing.{AllPass, pass_first, pass_second}
 use Rattle.range_inference.proofs.SameRuns.{Both, both_happens, both_then, both_if, not_empty, first_empty, second_empty}
-use Rattle.name_check.proofs.FoldEquations.{fold-Number, fold-Name, fold-Element, fold-Neg, fold-Binary}
 
 -- ---- what a state that fits has under a name
 below_length : (i len : ℤ) → (int_le (pos 0) i && int_lt i len) ≡ true → unsigned_abs i < unsigned_abs len
@@ -188,14 +187,14 @@ module _ (declared : List Declared) where
     all_good : (e : Expr) → Good e
     all_good =
         each_expr Good
-        (λ value line. good (Number value line) _ _ _ _ _ (fold-Number (watched_node test elsewhere) value line) (evaluation-Number value line) (fold-Number interval_of_node value line) (fold-Number faults_of_expr_node value line) (fold-Number judged_node value line) refl refl (number_holds value line))
-        (λ name. good (Name name) _ _ _ _ _ (fold-Name (watched_node test elsewhere) name) (evaluation-Name name) (fold-Name interval_of_node name) (fold-Name faults_of_expr_node name) (fold-Name judged_node name) refl refl (name_holds name))
-        (λ name index g. good (Element name index) _ _ _ _ _ (fold-Element (watched_node test elsewhere) name index) (evaluation-Element name index) (fold-Element interval_of_node name index) (fold-Element faults_of_expr_node name index) (fold-Element judged_node name index) refl refl
+        (λ value line. good (Number value line) _ _ _ _ _ (fold-Number (watched_node test elsewhere) value line) (fold-Number evaluation_of_node value line) (fold-Number interval_of_node value line) (fold-Number faults_of_expr_node value line) (fold-Number judged_node value line) refl refl (number_holds value line))
+        (λ name. good (Name name) _ _ _ _ _ (fold-Name (watched_node test elsewhere) name) (fold-Name evaluation_of_node name) (fold-Name interval_of_node name) (fold-Name faults_of_expr_node name) (fold-Name judged_node name) refl refl (name_holds name))
+        (λ name index g. good (Element name index) _ _ _ _ _ (fold-Element (watched_node test elsewhere) name index) (fold-Element evaluation_of_node name index) (fold-Element interval_of_node name index) (fold-Element faults_of_expr_node name index) (fold-Element judged_node name index) refl refl
         (element_holds name (watched test elsewhere index) (evaluation index) (judged index) (expr_faults index) g.holds))
-        (λ operand line g. good (Neg operand line) _ _ _ _ _ (fold-Neg (watched_node test elsewhere) operand line) (evaluation-Neg operand line) (fold-Neg interval_of_node operand line) (fold-Neg faults_of_expr_node operand line) (fold-Neg judged_node operand line)
+        (λ operand line g. good (Neg operand line) _ _ _ _ _ (fold-Neg (watched_node test elsewhere) operand line) (fold-Neg evaluation_of_node operand line) (fold-Neg interval_of_node operand line) (fold-Neg faults_of_expr_node operand line) (fold-Neg judged_node operand line)
         (ap (λ i. interval_of_node (expr.Neg i line)) g.interval) (ap (λ i. interval_of_node (expr.Neg i line)) g.judged_interval)
         (neg_holds (watched test elsewhere operand) (evaluation operand) (judged operand) (expr_faults operand) line (g.judged_interval ∙ sym g.interval) g.holds))
-        (λ left o right line g h. good (Binary left o right line) _ _ _ _ _ (fold-Binary (watched_node test elsewhere) left o right line) (evaluation-Binary left o right line) (fold-Binary interval_of_node left o right line) (fold-Binary faults_of_expr_node left o right line) (fold-Binary judged_node left o right line)
+        (λ left o right line g h. good (Binary left o right line) _ _ _ _ _ (fold-Binary (watched_node test elsewhere) left o right line) (fold-Binary evaluation_of_node left o right line) (fold-Binary interval_of_node left o right line) (fold-Binary faults_of_expr_node left o right line) (fold-Binary judged_node left o right line)
         (ap (λ i. interval_of_node (expr.Binary i o (watched test elsewhere right).interval line)) g.interval ∙ ap (λ i. interval_of_node (expr.Binary (interval_of left) o i line)) h.interval)
         (ap (λ i. interval_of_node (expr.Binary i o (judged right).interval line)) g.judged_interval ∙ ap (λ i. interval_of_node (expr.Binary (interval_of left) o i line)) h.judged_interval)
         (binary_holds (watched test elsewhere left) (watched test elsewhere right) o (evaluation left) (evaluation right) (judged left) (judged right) (expr_faults left) (expr_faults right) line

@@ -19,7 +19,7 @@ use Rattle.source_tree.specs.declared.statement.Place.{Place}
 use Rattle.source_tree.specs.declared.statement.Place.TheVariants as place
 use Rattle.source_tree.specs.declared.statement.Statement.{Statement, Assign, Print, Read, If, For, While, Call}
 use Rattle.source_tree.specs.declared.statement.Statement.TheOpen as statement
-use Rattle.source_tree.proofs.Equations.{execution-Assign, execution-Print, execution-Read, execution-If, execution-For, execution-While, execution-Call}
+use Rattle.source_tree.proofs.FoldEquations.{fold-Assign, fold-Print, fold-Read, fold-If, fold-For, fold-While, fold-Call}
 use Rattle.source_tree.proofs.FitsLemmas.{with_integer_of_fits, with_element_of_fits}
 use Rattle.source_tree.proofs.Inductions.{EachOf, each_of, each_statement}
 use Rattle.range_inference.specs.Demands.{Demand, expr_demands, exprs_demands, condition_demands, place_demands, all_demands, demands_of_node, statement_demands}
@@ -29,7 +29,6 @@ use Rattle.range_inference.specs.declared.interval.Interval.{Interval}
 use Rattle.range_inference.proofs.Passing.{AllPass, pass_first, pass_second}
 use Rattle.range_inference.proofs.SameRuns.{Both, both_happens, both_then, both_if, not_empty, first_empty, second_empty}
 use Rattle.range_inference.proofs.WatchedExpressions.{Tied, LiesAndFits, value_holds}
-use Rattle.name_check.proofs.FoldEquations.{fold-Assign, fold-Print, fold-Read, fold-If, fold-For, fold-While, fold-Call}
 
 module _ (declared : List Declared) (test : Interval → ℤ → Bool) (elsewhere : Run ℤ) where
   abbrev pub watching : Expr → Evaluation
@@ -236,17 +235,17 @@ module _ (declared : List Declared) (test : Interval → ℤ → Bool) (elsewher
   pub every_statement : (s : Statement) → KeepsStatement s
   every_statement =
       each_statement KeepsStatement
-      (λ to e line. at (Assign to e line) _ _ _ _ (execution-Assign watching to e line) (execution-Assign evaluation to e line) (fold-Assign faults_of_node to e line) (fold-Assign demands_of_node to e line) (assign_keeps to e line))
-      (λ e line. at (Print e line) _ _ _ _ (execution-Print watching e line) (execution-Print evaluation e line) (fold-Print faults_of_node e line) (fold-Print demands_of_node e line) (print_keeps e line))
-      (λ to line. at (Read to line) _ _ _ _ (execution-Read watching to line) (execution-Read evaluation to line) (fold-Read faults_of_node to line) (fold-Read demands_of_node to line)
+      (λ to e line. at (Assign to e line) _ _ _ _ (fold-Assign (execution_of_node watching) to e line) (fold-Assign (execution_of_node evaluation) to e line) (fold-Assign faults_of_node to e line) (fold-Assign demands_of_node to e line) (assign_keeps to e line))
+      (λ e line. at (Print e line) _ _ _ _ (fold-Print (execution_of_node watching) e line) (fold-Print (execution_of_node evaluation) e line) (fold-Print faults_of_node e line) (fold-Print demands_of_node e line) (print_keeps e line))
+      (λ to line. at (Read to line) _ _ _ _ (fold-Read (execution_of_node watching) to line) (fold-Read (execution_of_node evaluation) to line) (fold-Read faults_of_node to line) (fold-Read demands_of_node to line)
       (λ scope calls' calls state loops tied none passes fits. both_happens visit _ _ Stands (read_keeps scope calls' calls tied to line state.input state loops none passes fits)))
-      (λ condition first second line ka kb. at (If condition first second line) _ _ _ _ (execution-If watching condition first second line) (execution-If evaluation condition first second line) (fold-If faults_of_node condition first second line) (fold-If demands_of_node condition first second line)
+      (λ condition first second line ka kb. at (If condition first second line) _ _ _ _ (fold-If (execution_of_node watching) condition first second line) (fold-If (execution_of_node evaluation) condition first second line) (fold-If faults_of_node condition first second line) (fold-If demands_of_node condition first second line)
       (if_keeps condition first second line ka kb))
-      (λ name first last body line kb. at (For name first last body line) _ _ _ _ (execution-For watching name first last body line) (execution-For evaluation name first last body line) (fold-For faults_of_node name first last body line) (fold-For demands_of_node name first last body line)
+      (λ name first last body line kb. at (For name first last body line) _ _ _ _ (fold-For (execution_of_node watching) name first last body line) (fold-For (execution_of_node evaluation) name first last body line) (fold-For faults_of_node name first last body line) (fold-For demands_of_node name first last body line)
       (loop_keeps name first last body line kb))
-      (λ condition turns body line kb. at (While condition turns body line) _ _ _ _ (execution-While watching condition turns body line) (execution-While evaluation condition turns body line) (fold-While faults_of_node condition turns body line) (fold-While demands_of_node condition turns body line)
+      (λ condition turns body line kb. at (While condition turns body line) _ _ _ _ (fold-While (execution_of_node watching) condition turns body line) (fold-While (execution_of_node evaluation) condition turns body line) (fold-While faults_of_node condition turns body line) (fold-While demands_of_node condition turns body line)
       (repeat_keeps condition turns body line kb))
-      (λ name es line. at (Call name es line) _ _ _ _ (execution-Call watching name es line) (execution-Call evaluation name es line) (fold-Call faults_of_node name es line) (fold-Call demands_of_node name es line)
+      (λ name es line. at (Call name es line) _ _ _ _ (fold-Call (execution_of_node watching) name es line) (fold-Call (execution_of_node evaluation) name es line) (fold-Call faults_of_node name es line) (fold-Call demands_of_node name es line)
       (λ scope calls' calls state loops tied none passes fits.
       let o = lookup name.bytes scope in
       both_happens visit _ _ Stands (call_keeps scope calls' calls tied o es name.line line state (tied.names name.bytes)

@@ -1,20 +1,24 @@
 -- How acts are performed: one operation or Show, and then the acts that follow.
 use Rattle.std.proofs.Common.{◌≡◌, ℕ, ◌+◌, ℤ, Bool, true, false, List, [], ◌∷◌, Option, None, Some, cond, refl, sym, ap, subst, arith}
 use Rattle.std.specs.Prelude.{IsSome, is_some, not, unsigned_abs}
+use Rattle.std.specs.Int.{w128}
+use Rattle.std.specs.Int.RustNames.{FitsSigned}
 use Rattle.std.specs.Option.{option_map_or}
+use Rattle.std.proofs.lemmas.Int.{to_z-of_z}
+use mir.Val.{to_z, of_z}
 use Rattle.moduli_sets.specs.Set.{ModuliSet}
 use Rattle.moduli_sets.specs.declared.kind.Kind.{Kind}
-use Rattle.moduli_sets.specs.declared.kind.Kind.TheVariants.{Index}
+use Rattle.moduli_sets.specs.declared.kind.Kind.TheVariants.{Index, InputRange, Range}
 use Rattle.channel_alu.specs.declared.operation.Place.{Place}
 use Rattle.channel_alu.specs.declared.operation.Place.TheVariants.{Reg, Word}
 use Rattle.channel_alu.specs.declared.operation.MicroOp.{MicroOp}
-use Rattle.channel_alu.specs.declared.operation.MicroOp.TheVariants.{Show}
+use Rattle.channel_alu.specs.declared.operation.MicroOp.TheVariants.{Put, Show}
 use Rattle.lane_bank.specs.Bank.{lanes_after}
-use Rattle.machine_table.specs.Control.{Control, next, at_place, halts, traps}
+use Rattle.machine_table.specs.Control.{Control, next, at_place, halts, lies_in, traps, with_input}
 use Rattle.channel_scheduler.specs.declared.rack.Rack.{Ghosts as RackGhosts}
 use Rattle.machine_table.specs.Integers.{is_index}
 use Rattle.micro_plan.specs.ActTree.{Acts, issue, ask, go_on, end_by}
-use Rattle.micro_plan.specs.Acts.{element_acts, issues}
+use Rattle.micro_plan.specs.Acts.{element_acts, issues, read_acts}
 use Rattle.shown_run.specs.Trace.{Trace, did, showed, damaged, corrections_of, ending_of, is_corrected, operations_of}
 use Rattle.shown_run.specs.Runs.{shown}
 use Rattle.residue_machine.specs.declared.channels.Told.TheVariants.{Integer, Bad}
@@ -30,6 +34,11 @@ use Rattle.residue_machine.proofs.BenchLemmas.{Performed-none, Performed-same, P
 pub is_silent : (o : Option Place) → IsSome o → not (is_some o) ≡ false
 is_silent None h = sym h
 is_silent (Some to) h = refl
+
+-- a test of numbers as the program has them
+pub lies_in-said : (low high x : ℤ) (said t : Bool) → FitsSigned w128 low → FitsSigned w128 high → FitsSigned w128 x → said ≡ lies_in (to_z w128 (of_z w128 low)) (to_z w128 (of_z w128 high)) (to_z w128 (of_z w128 x)) → said ≡ t → lies_in low high x ≡ t
+lies_in-said low high x said t fits_low fits_high fits is e =
+    cc (is, e, to_z-of_z w128 low fits_low, to_z-of_z w128 high fits_high, to_z-of_z w128 x fits)
 
 module _ {R D : Type 0} (racks : RackGhosts R) (reach : ModuliSet → ℕ) (gone : Option ℕ) where
   -- ---- traces
@@ -108,9 +117,18 @@ module _ {R D : Type 0} (racks : RackGhosts R) (reach : ModuliSet → ℕ) (gone
   pub comes-went : (outcome : Outcome) (control after : Control) (b : Bench R D) → GoesOn outcome control after → ComesTo racks reach gone (go_on after) control b outcome b
   comes-went outcome control after b h = record { channels = Performed-none racks b; control_is = sym h.control_is; prints = sym h.prints; ending = sym h.ending }
 
-  -- acts by a test that is met, and that isn't
-  pub comes-if : (t : Bool) (met other : Acts) (control : Control) (old new : Bench R D) (outcome : Outcome) → t ≡ true → ComesTo racks reach gone met control old outcome new → ComesTo racks reach gone (cond t met other) control old outcome new
-  comes-if t met other control old new outcome e h = subst (λ (u : Bool). ComesTo racks reach gone (cond u met other) control old outcome new) (sym e) h
+  -- acts by what a test says
+  pub comes-test : (t u : Bool) (met other : Acts) (control : Control) (old new : Bench R D) (outcome : Outcome) → t ≡ u → ComesTo racks reach gone (cond u met other) control old outcome new → ComesTo racks reach gone (cond t met other) control old outcome new
+  comes-test t u met other control old new outcome e h = subst (λ (b : Bool). ComesTo racks reach gone (cond b met other) control old outcome new) (sym e) h
 
-  pub comes-else : (t : Bool) (met other : Acts) (control : Control) (old new : Bench R D) (outcome : Outcome) → t ≡ false → ComesTo racks reach gone other control old outcome new → ComesTo racks reach gone (cond t met other) control old outcome new
-  comes-else t met other control old new outcome e h = subst (λ (u : Bool). ComesTo racks reach gone (cond u met other) control old outcome new) (sym e) h
+  -- a check of a register whose integer is x
+  pub comes-check : (a : ℕ) (low high x : ℤ) (line : ℕ) (t : Bool) (control : Control) (old new : Bench R D) (outcome : Outcome) → IsTold racks reach gone (Reg a) old (Integer x) new → lies_in low high x ≡ t → ComesTo racks reach gone (cond t (go_on (next control)) (end_by (traps Range line))) control new outcome new → ComesTo racks reach gone (ask (Reg a) (λ y. cond (lies_in low high y) (go_on (next control)) (end_by (traps Range line)))) control old outcome new
+  comes-check a low high x line t control old new outcome told test h =
+      comes-ask (Reg a) (λ y. cond (lies_in low high y) (go_on (next control)) (end_by (traps Range line))) x control old new new outcome told
+      (comes-test (lies_in low high x) t (go_on (next control)) (end_by (traps Range line)) control new new outcome test h)
+
+  -- the next number of the input is x
+  pub comes-read : (a : ℕ) (low high x : ℤ) (line : ℕ) (rest input : List ℤ) (t : Bool) (old control : Control) (b new : Bench R D) (outcome : Outcome) → input ≡ x ∷ rest → lies_in low high x ≡ t → ComesTo racks reach gone (cond t (issues (Put (Reg a) x) (with_input rest old)) (end_by (traps InputRange line))) control b outcome new → ComesTo racks reach gone (read_acts a low high line input old) control b outcome new
+  comes-read a low high x line rest input t old control b new outcome is test h =
+      subst (λ (xs : List ℤ). ComesTo racks reach gone (read_acts a low high line xs old) control b outcome new) (sym is)
+      (comes-test (lies_in low high x) t (issues (Put (Reg a) x) (with_input rest old)) (end_by (traps InputRange line)) control b new outcome test h)

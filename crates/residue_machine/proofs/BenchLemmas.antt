@@ -98,16 +98,18 @@ module _ {R : Type 0} (racks : RackGhosts R) where
 
 module _ {R D : Type 0} (racks : RackGhosts R) where
   -- ---- what the lanes can do
-  pub can : (b : Bench R D) (op : MicroOp) → HasCome racks b → CanPerform (length b.start) (length b.set.moduli) op → AllCanPerform (racks.lanes_of b.rack) op
-  can b op come h =
-      subst (λ lanes. AllCanPerform lanes op) (sym come.lanes) (CanPerform-lanes (racks.book_of b.rack) b.set 0 b.start come.ops op h)
+  pub can : (b now : Bench R D) (op : MicroOp) → b ≡ now → HasCome racks b → CanPerform (length now.start) (length now.set.moduli) op → AllCanPerform (racks.lanes_of b.rack) op
+  can b now op same come h =
+      subst (λ lanes. AllCanPerform lanes op) (sym come.lanes)
+      (CanPerform-lanes (racks.book_of b.rack) b.set 0 b.start come.ops op (subst (λ (k : Bench R D). CanPerform (length k.start) (length k.set.moduli) op) (sym same) h))
 
-  pub room : (b : Bench R D) → HasCome racks b → b.issued < 10 ^ 18 → HasRoom (racks.lanes_of b.rack)
-  room b come h =
+  pub room : (b now : Bench R D) → b ≡ now → HasCome racks b → now.issued < 10 ^ 18 → HasRoom (racks.lanes_of b.rack)
+  room b now same come h =
+      let own : b.issued < 10 ^ 18 = subst (λ (k : Bench R D). k.issued < 10 ^ 18) (sym same) h in
       let count = come.count in
       let lanes = lanes_after_all (racks.book_of b.rack) come.ops (lanes_at_start b.set 0 b.start) in
       subst HasRoom (sym come.lanes)
-      (All-weaker (λ lane. lane.answers ≡ length come.ops) (λ lane. lane.answers < 10 ^ 18) (λ lane e. omega (arith, e, count, h)) lanes
+      (All-weaker (λ lane. lane.answers ≡ length come.ops) (λ lane. lane.answers < 10 ^ 18) (λ lane e. omega (arith, e, count, own)) lanes
       (answers-lanes (racks.book_of b.rack) b.set 0 b.start come.ops))
 
   residues : (b : Bench R D) (place : Place) → IsModuliSet b.set → HasCome racks b → AreResidues b.set.moduli (column_at racks place b)
@@ -239,8 +241,11 @@ module _ {R D : Type 0} (racks : RackGhosts R) where
       ∙ ap (f (decoding_of racks reach gone old) (racks.book_of old.rack) old.set old.code) h.lanes
 
   -- ---- what is told of a column
-  -- the channels before they showed a place, and after it
-  module _ (decoders : DecoderGhosts D) (old b : Bench R D) (place : Place) (column : List ℕ) (shown : HasShown racks place old column b) (is : IsBench racks decoders b) where
+  -- the channels before they showed a place, and after it, as they are seen and by their parts
+  module _ (decoders : DecoderGhosts D) (old now b : Bench R D) (place : Place) (column : List ℕ) (same : b ≡ now) (seen : HasShown racks place old column now) (is : IsBench racks decoders b) where
+    shown : HasShown racks place old column b
+    shown = subst (HasShown racks place old column) (sym same) seen
+
     pub decodable : AreResidues (decoders.set b.decoder).moduli column
     decodable = subst (λ (t : ModuliSet). AreResidues t.moduli column) (sym is.decodes) shown.residues
 

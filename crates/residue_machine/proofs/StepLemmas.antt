@@ -39,7 +39,7 @@ module _ {R D : Type 0} (racks : RackGhosts R) where
 
 module _ {R D : Type 0} (racks : RackGhosts R) (reach : ModuliSet → ℕ) (gone : Option ℕ) where
   -- the run goes on
-  pub stepped-on : (old : MachineState R D) (between after : Control) (channels : Bench R D) (outcome : Outcome) (answer : Stepped) (over : Option RunEnding) → over ≡ None → Came racks reach gone (trace_of_step racks reach gone old) old.channels.issued between old.channels outcome channels → control_by outcome between ≡ Some after → outcomes.prints_by outcome ≡ prints_by answer → outcomes.ending_by outcome ≡ ending_by answer → HasStepped racks reach gone racks.IsUnderWay old answer (record { channels = channels; control = after; taken = old.taken + 1; ended = over })
+  stepped-on : (old : MachineState R D) (between after : Control) (channels : Bench R D) (outcome : Outcome) (answer : Stepped) (over : Option RunEnding) → over ≡ None → Came racks reach gone (trace_of_step racks reach gone old) old.channels.issued between old.channels outcome channels → control_by outcome between ≡ Some after → outcomes.prints_by outcome ≡ prints_by answer → outcomes.ending_by outcome ≡ ending_by answer → HasStepped racks reach gone racks.IsUnderWay old answer (record { channels = channels; control = after; taken = old.taken + 1; ended = over })
   stepped-on old between after channels outcome answer over none came on prints ending =
       let t = trace_of_step racks reach gone old in
       record {
@@ -69,6 +69,10 @@ module _ {R D : Type 0} (racks : RackGhosts R) (reach : ModuliSet → ℕ) (gone
   step-fresh {After} now old new answer same on h =
       subst (λ (m : MachineState R D). IsStep racks reach gone After m answer new) same
       (subst (λ (o : Option RunEnding). StepsOn racks reach gone After o old answer new) (sym on) h)
+
+  pub step-on : (now old : MachineState R D) (between after : Control) (channels : Bench R D) (outcome : Outcome) (answer : Stepped) → old ≡ now → old.ended ≡ None → Came racks reach gone (trace_of_step racks reach gone old) old.channels.issued between old.channels outcome channels → control_by outcome between ≡ Some after → outcomes.prints_by outcome ≡ prints_by answer → outcomes.ending_by outcome ≡ ending_by answer → IsStep racks reach gone racks.IsUnderWay now answer (record { channels = channels; control = after; taken = old.taken + 1; ended = old.ended })
+  step-on now old between after channels outcome answer same fresh came on prints ending =
+      step-fresh now old _ answer same fresh (stepped-on old between after channels outcome answer old.ended fresh came on prints ending)
 
   pub step-own : {After : R → List LaneState → List MicroOp → Type 0} (old new : MachineState R D) (answer : Stepped) → old.ended ≡ None → IsStep racks reach gone After old answer new → HasStepped racks reach gone After old answer new
   step-own {After} old new answer on h = subst (λ (o : Option RunEnding). StepsOn racks reach gone After o old answer new) on h

@@ -30,7 +30,7 @@ use Rattle.resolved_tree.specs.declared.tree.Procedure.{Procedure}
 use Rattle.resolved_tree.specs.declared.tree.Step.{Step, Assign, Call, Skip}
 use Rattle.resolved_tree.specs.declared.tree.Target.TheVariants as target
 use Rattle.resolved_tree.specs.declared.tree.Value.{Value, Number, Integer, Element, Binary}
-use Rattle.name_check.proofs.FoldEquations.{fold-Number, fold-Name, fold-Element, fold-Binary, fold-Assign, fold-Call}
+use Rattle.source_tree.proofs.FoldEquations.{fold-Number, fold-Name, fold-Element, fold-Binary, fold-Assign, fold-Call}
 
 abbrev x : ℕ → Name
 x line = named (120 ∷ []) line

@@ -21,7 +21,7 @@ use Rattle.resolved_tree.specs.declared.tree.Target.TheVariants as target
 use Rattle.resolved_tree.specs.declared.tree.Value.{Value}
 use Rattle.resolved_tree.specs.declared.tree.Value as value
 use Rattle.resolved_tree.proofs.Equations.{all_resolved-map}
-use Rattle.name_check.proofs.FoldEquations.{fold-Number, fold-Name, fold-Element, fold-Neg, fold-Binary, fold-Assign, fold-Print, fold-Read, fold-If, fold-For, fold-While, fold-Call}
+use Rattle.source_tree.proofs.FoldEquations.{fold-Number, fold-Name, fold-Element, fold-Neg, fold-Binary, fold-Assign, fold-Print, fold-Read, fold-If, fold-For, fold-While, fold-Call}
 
 abbrev pub SameNames : Scope → Scope → Type 0
 SameNames a b = (x : List ℕ) → lookup x a ≡ lookup x b

@@ -10,7 +10,7 @@ use Rattle.source_tree.specs.Run.{Run, visit, print, returns, traps, happens, an
 use Rattle.source_tree.specs.Scope.{Declared, variable, array, procedure, Scope, is_within, with_integer_of, with_element_of}
 use Rattle.source_tree.specs.Expression.{Calls}
 use Rattle.source_tree.specs.Fits.{IsAmong, IsScopeOf}
-use Rattle.source_tree.specs.Statement.{Execution, nothing_done, test_of, turns_of, execution_by}
+use Rattle.source_tree.specs.Statement.{execution_of_node, Execution, nothing_done, test_of, turns_of, execution_by}
 use Rattle.source_tree.specs.Statement as source
 use Rattle.source_tree.specs.declared.name.Name.{Name as SourceName}
 use Rattle.source_tree.specs.declared.name.Range.{Range}
@@ -19,7 +19,7 @@ use Rattle.source_tree.specs.declared.expression.Expr.{Expr}
 use Rattle.source_tree.specs.declared.statement.Place.{Place}
 use Rattle.source_tree.specs.declared.statement.Place.TheVariants as place
 use Rattle.source_tree.specs.declared.statement.Statement.{Statement, Assign, Print, Read, If, For, While, Call}
-use Rattle.source_tree.proofs.Equations.{execution-Assign, execution-Print, execution-Read, execution-If, execution-For, execution-While, execution-Call}
+use Rattle.source_tree.proofs.FoldEquations.{fold-Assign, fold-Print, fold-Read, fold-If, fold-For, fold-While, fold-Call}
 use Rattle.source_tree.proofs.Inductions.{EachOf, each_of, each_statement}
 use Rattle.source_tree.proofs.RunLaws.{and_then_agrees, leads_and_then, leads_always}
 use Rattle.resolved_tree.specs.Meaning.{Doing, put_in_slot, put_in_element, put_into, read_into, for_turns, while_turns, argument_values, step_of, steps_of, tested}
@@ -29,7 +29,6 @@ use Rattle.resolved_tree.specs.declared.tree.Step.{Step}
 use Rattle.resolved_tree.proofs.Equations.{all_resolved-map, step-Assign, step-Print, step-Read, step-If, step-For, step-While, step-Call, step-Skip}
 use Rattle.resolved_tree.proofs.Rooms.{HasRoom, room_at, place_below}
 use Rattle.resolved_tree.proofs.SameValues.{watching, range_same, has_same, value_same, test_same}
-use Rattle.name_check.proofs.FoldEquations.{fold-Assign, fold-Print, fold-Read, fold-If, fold-For, fold-While, fold-Call}
 
 module _ (declared : List Declared) where
   abbrev pub size : ℕ
@@ -196,36 +195,36 @@ module _ (declared : List Declared) where
     pub step_same : (s : Statement) → SameStep s
     step_same =
         each_statement SameStep
-        (λ to e line. join (Assign to e line) _ _ (fold-Assign resolved_node to e line) (execution-Assign watching to e line)
+        (λ to e line. join (Assign to e line) _ _ (fold-Assign resolved_node to e line) (fold-Assign (execution_of_node watching) to e line)
         (λ scope calls' calls state names agree.
         ap (λ d. d calls' state) (step-Assign size (resolved_place to scope) (resolved_expr e scope) line)
         ∙ (λ j. happens visit (and_then (value_same e scope calls state j) (λ x after. put_same scope calls' calls names agree to x kind.Range line line after j)))))
-        (λ e line. join (Print e line) _ _ (fold-Print resolved_node e line) (execution-Print watching e line)
+        (λ e line. join (Print e line) _ _ (fold-Print resolved_node e line) (fold-Print (execution_of_node watching) e line)
         (λ scope calls' calls state names agree.
         ap (λ d. d calls' state) (step-Print size (resolved_expr e scope))
         ∙ (λ j. happens visit (and_then (value_same e scope calls state j) (λ x after. happens (print x) (nothing_done after))))))
-        (λ to line. join (Read to line) _ _ (fold-Read resolved_node to line) (execution-Read watching to line)
+        (λ to line. join (Read to line) _ _ (fold-Read resolved_node to line) (fold-Read (execution_of_node watching) to line)
         (λ scope calls' calls state names agree.
         ap (λ d. d calls' state) (step-Read size (resolved_place to scope) line)
         ∙ (λ j. happens visit (read_same scope calls' calls names agree to line state.input state j))))
-        (λ condition first second line h k. join (If condition first second line) _ _ (fold-If resolved_node condition first second line) (execution-If watching condition first second line)
+        (λ condition first second line h k. join (If condition first second line) _ _ (fold-If resolved_node condition first second line) (fold-If (execution_of_node watching) condition first second line)
         (λ scope calls' calls state names agree.
         ap (λ d. d calls' state) (step-If size (resolved_condition condition scope) (all_resolved (map resolved_statement first) scope) (all_resolved (map resolved_statement second) scope))
         ∙ (λ j. happens visit (and_then (test_same condition scope calls state j) (λ chosen after.
         if chosen then inner_same first h scope calls' calls after names agree j else inner_same second k scope calls' calls after names agree j)))))
-        (λ name first last body line h. join (For name first last body line) _ _ (fold-For resolved_node name first last body line) (execution-For watching name first last body line)
+        (λ name first last body line h. join (For name first last body line) _ _ (fold-For resolved_node name first last body line) (fold-For (execution_of_node watching) name first last body line)
         (λ scope calls' calls state names agree.
         ap (λ d. d calls' state) (step-For size (slot_at name scope) (resolved_expr first scope) (resolved_expr last scope) (all_resolved (map resolved_statement body) scope) line)
         ∙ (λ j. happens visit (and_then (value_same first scope calls state j) (λ a after. and_then (value_same last scope calls after j) (λ b later.
         for_same scope calls' calls names agree (steps_of size (all_resolved (map resolved_statement body) scope)) (source.in_order (map (execution_by watching) body))
         (λ s. inner_same body h scope calls' calls s names agree) (turns_of a b) a name line later j))))))
-        (λ condition limit body line h. join (While condition limit body line) _ _ (fold-While resolved_node condition limit body line) (execution-While watching condition limit body line)
+        (λ condition limit body line h. join (While condition limit body line) _ _ (fold-While resolved_node condition limit body line) (fold-While (execution_of_node watching) condition limit body line)
         (λ scope calls' calls state names agree.
         ap (λ d. d calls' state) (step-While size (resolved_condition condition scope) limit (all_resolved (map resolved_statement body) scope) line)
         ∙ (λ j. happens visit (
         while_same scope calls' calls names agree (steps_of size (all_resolved (map resolved_statement body) scope)) (source.in_order (map (execution_by watching) body))
         (λ s. inner_same body h scope calls' calls s names agree) (unsigned_abs limit) condition line state j))))
-        (λ name es line. join (Call name es line) _ _ (fold-Call resolved_node name es line) (execution-Call watching name es line)
+        (λ name es line. join (Call name es line) _ _ (fold-Call resolved_node name es line) (fold-Call (execution_of_node watching) name es line)
         (λ scope calls' calls state names agree.
         call_same scope calls' calls names agree room (lookup name.bytes scope) es line state (names name.bytes)))
 

@@ -20,7 +20,7 @@ use Rattle.resolved_tree.specs.Resolution.{resolved_expr, resolved_condition, sl
 use Rattle.resolved_tree.specs.Slots.{slot_of, declared_of, is_word}
 use Rattle.resolved_tree.specs.declared.tree.Value.{Value}
 use Rattle.resolved_tree.proofs.Equations.{value-Number, value-Integer, value-Element, value-Neg, value-Binary}
-use Rattle.name_check.proofs.FoldEquations.{fold-Number, fold-Name, fold-Element, fold-Neg, fold-Binary}
+use Rattle.source_tree.proofs.FoldEquations.{fold-Number, fold-Name, fold-Element, fold-Neg, fold-Binary}
 
 -- ---- what a name stands for, and its slot
 integer_same : (o : Option Declared) (state : State) → integer_of (declared_of (slot_of o)) state ≡ integer_of o state

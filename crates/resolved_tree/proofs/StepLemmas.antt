@@ -9,7 +9,7 @@ use Rattle.source_tree.specs.declared.statement.Statement as source
 use Rattle.resolved_tree.specs.Resolution.{slot_at, resolved_expr, resolved_condition, resolved_statement, resolved_statements, resolved_node}
 use Rattle.resolved_tree.specs.declared.tree.Step.{Step, If, For, While}
 use Rattle.resolved_tree.proofs.Equations.{all_resolved-map}
-use Rattle.name_check.proofs.FoldEquations.{fold-If, fold-For, fold-While}
+use Rattle.source_tree.proofs.FoldEquations.{fold-If, fold-For, fold-While}
 
 pub resolved_if : (s : Statement) (condition : Condition) (first second : List Statement) (line : ℕ) (scope : Scope) → s ≡ source.If condition first second line
     → resolved_statement s scope ≡ If (resolved_condition condition scope) (resolved_statements first scope) (resolved_statements second scope)

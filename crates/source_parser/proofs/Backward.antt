@@ -12,7 +12,7 @@ use Rattle.source_parser.specs.Grammar.{ReadsStatement, assign, print, read, if_
 use Rattle.source_parser.specs.Wants.{Want, token, inner, close, fresh, outermost, sum, sum_tail, term, term_tail, factor, index, comparison, listed, commas, place_tail, after_name, statements, otherwise, declarations, bound, params, more_params, locals}
 use Rattle.source_parser.specs.Wants.{Move, stuck, deep, on, step, price, moved, number_of}
 use Rattle.source_parser.proofs.KindNumbers.{plain, same_kind}
-use Rattle.source_parser.proofs.Completions.{HasTree, FollowedWithin, Followed, Longer, IsPlain, Sign, Fits}
+use Rattle.source_parser.proofs.Completions.{HasTree, FollowedWithin, Followed, Longer, IsPlain, Sign, Fits, none_of}
 
 abbrev pub Backs : ℕ → TokenKind → List Want → ℕ → ℕ → Move → Type 0
 Backs width k s d w stuck = Unit {0}
@@ -117,6 +117,10 @@ inner_back width k j s d w false e = tt
 inner_back width k j s d w true e = λ terminals f. record { rest = terminals; reads = ap (λ (x : TokenKind). plain x ∷ terminals) (sym (same_kind k j e)); behind = f }
 
 -- ---- parts put together
+-- two terminals of a kind, one after the other
+two_plain : (j k : TokenKind) {B : List Terminal → Type 0} {terminals : List Terminal} (f : Followed (IsPlain j) (Followed (IsPlain k) B) terminals) → terminals ≡ plain j ∷ plain k ∷ f.behind.rest
+two_plain j k f = f.reads ∙ ap (λ (x : List Terminal). plain j ∷ x) f.behind.reads
+
 condition_of : (width : ℕ) (B : List Terminal → Type 0) (terminals : List Terminal) → Followed (HasTree (ReadsOutermost width)) (Followed Sign (Followed (HasTree (ReadsOutermost width)) B)) terminals
     → Followed (HasTree (ReadsCondition width)) B terminals
 condition_of width B terminals f =
@@ -138,10 +142,9 @@ param_of : (B : List Terminal → Type 0) (terminals : List Terminal)
     → Followed (IsPlain kind.Name) (Followed (IsPlain kind.Colon) (Followed (HasTree ReadsBound) (Followed (IsPlain kind.Dots) (Followed (HasTree ReadsBound) B)))) terminals → Followed (HasTree ReadsParam) B terminals
 param_of B terminals f =
     let r = range_of B f.behind.rest f.behind.behind in
-    let front : terminals ≡ plain kind.Name ∷ plain kind.Colon ∷ f.behind.rest = f.reads ∙ ap (λ (x : List Terminal). plain kind.Name ∷ x) f.behind.reads in
     record {
       rest = r.rest;
-      reads = subst (λ (x : List Terminal). HasTree ReadsParam x r.rest) (sym front) (record { tree = _; reads = param r.reads.reads });
+      reads = subst (λ (x : List Terminal). HasTree ReadsParam x r.rest) (sym (two_plain kind.Name kind.Colon f)) (record { tree = _; reads = param r.reads.reads });
       behind = r.behind;
     }
 
@@ -193,10 +196,9 @@ back_statements width kind.For s (suc d) w h = λ terminals f.
     let to = from.behind.behind in
     let body = to.behind.behind in
     let more = body.behind.behind in
-    let front : terminals ≡ plain kind.Name ∷ plain kind.Becomes ∷ f.behind.rest = f.reads ∙ ap (λ (x : List Terminal). plain kind.Name ∷ x) f.behind.reads in
     record {
       rest = more.rest;
-      reads = subst (λ (x : List Terminal). HasTree (ReadsStatements width (suc d)) (plain kind.For ∷ x) more.rest) (sym front)
+      reads = subst (λ (x : List Terminal). HasTree (ReadsStatements width (suc d)) (plain kind.For ∷ x) more.rest) (sym (two_plain kind.Name kind.Becomes f))
           (record {
             tree = _;
             reads = g.statements (for_statement (rw from.behind.reads at from.reads.reads) (rw to.behind.reads at to.reads.reads) (rw body.behind.reads at body.reads.reads)) more.reads.reads;
@@ -219,7 +221,7 @@ back_statements width kind.While s (suc d) w h = λ terminals f.
 back_statements width kind.Name s d w h = λ terminals f.
     record { rest = f.behind.rest; reads = record { tree = _; reads = g.statements f.reads.reads f.behind.reads.reads }; behind = f.behind.behind }
 back_statements width k s d w h =
-    lifts width k s d width (statements ∷ s) d w (λ terminals f. record { rest = terminals; reads = record { tree = []; reads = no_statement }; behind = f }) (step width k s d width) h
+    lifts width k s d width (statements ∷ s) d w (none_of (ReadsStatements width d) (λ terminals. no_statement)) (step width k s d width) h
 
 -- ---- declarations
 back_declarations : (width : ℕ) (k : TokenKind) (s : List Want) (d w : ℕ) → Backs width k s d width (step width k s d width) → Backs width k (declarations ∷ s) d w (step width k (declarations ∷ s) d w)
@@ -235,7 +237,7 @@ back_declarations width kind.Array s d w h = λ terminals f.
     let r = range_of (Fits width (token kind.Semicolon ∷ declarations ∷ s) d width) f.behind.behind.behind.behind.rest f.behind.behind.behind.behind.behind in
     let more = r.behind.behind in
     let front : terminals ≡ plain kind.Name ∷ plain kind.LeftBracket ∷ plain kind.Number ∷ plain kind.RightBracket ∷ plain kind.Colon ∷ f.behind.behind.behind.behind.rest
-    = f.reads ∙ ap (λ (x : List Terminal). plain kind.Name ∷ x) f.behind.reads ∙ ap (λ (x : List Terminal). plain kind.Name ∷ plain kind.LeftBracket ∷ x) f.behind.behind.reads
+    = two_plain kind.Name kind.LeftBracket f ∙ ap (λ (x : List Terminal). plain kind.Name ∷ plain kind.LeftBracket ∷ x) f.behind.behind.reads
     ∙ ap (λ (x : List Terminal). plain kind.Name ∷ plain kind.LeftBracket ∷ plain kind.Number ∷ x) f.behind.behind.behind.reads
     ∙ ap (λ (x : List Terminal). plain kind.Name ∷ plain kind.LeftBracket ∷ plain kind.Number ∷ plain kind.RightBracket ∷ x) f.behind.behind.behind.behind.reads in
     record {
@@ -249,10 +251,9 @@ back_declarations width kind.Proc s d w h = λ terminals f.
     let locals_ = params_.behind in
     let body = locals_.behind.behind in
     let more = body.behind.behind in
-    let front : terminals ≡ plain kind.Name ∷ plain kind.LeftParen ∷ f.behind.rest = f.reads ∙ ap (λ (x : List Terminal). plain kind.Name ∷ x) f.behind.reads in
     record {
       rest = more.rest;
-      reads = subst (λ (x : List Terminal). HasTree (ReadsAll (ReadsDeclaration d width)) (plain kind.Proc ∷ x) more.rest) (sym front)
+      reads = subst (λ (x : List Terminal). HasTree (ReadsAll (ReadsDeclaration d width)) (plain kind.Proc ∷ x) more.rest) (sym (two_plain kind.Name kind.LeftParen f))
           (record {
             tree = _;
             reads = and_more (proc params_.reads.reads (rw locals_.behind.reads at locals_.reads.reads) (rw body.behind.reads at body.reads.reads)) more.reads.reads;
@@ -260,7 +261,7 @@ back_declarations width kind.Proc s d w h = λ terminals f.
       behind = more.behind;
     }
 back_declarations width k s d w h =
-    lifts width k s d width (declarations ∷ s) d w (λ terminals f. record { rest = terminals; reads = record { tree = []; reads = none }; behind = f }) (step width k s d width) h
+    lifts width k s d width (declarations ∷ s) d w (none_of (ReadsAll (ReadsDeclaration d width)) (λ terminals. none)) (step width k s d width) h
 
 back_params : (width : ℕ) (k : TokenKind) (s : List Want) (d w : ℕ) → Backs width k (params ∷ s) d w (step width k (params ∷ s) d w)
 back_params width kind.RightParen s d w = λ terminals f. record { rest = terminals; reads = record { tree = []; reads = nothing }; behind = f }
@@ -292,7 +293,7 @@ back_locals width kind.Var s d w h = λ terminals f.
       behind = more.behind;
     }
 back_locals width k s d w h =
-    lifts width k s d width (locals ∷ s) d w (λ terminals f. record { rest = terminals; reads = record { tree = []; reads = none }; behind = f }) (step width k s d width) h
+    lifts width k s d width (locals ∷ s) d w (none_of (ReadsAll ReadsLocal) (λ terminals. none)) (step width k s d width) h
 
 back_comparison : (width : ℕ) (k : TokenKind) (s : List Want) (d w : ℕ) → Backs width k (comparison ∷ s) d w (step width k (comparison ∷ s) d w)
 back_comparison width kind.Less s d w = λ terminals f. record { rest = terminals; reads = record { sign = kind.Less; test = _; line = 0; compares = less; is = refl }; behind = f }
@@ -354,7 +355,7 @@ back_bound width k s d w = tt
 back_else : (width : ℕ) (k : TokenKind) (s : List Want) (d w : ℕ) → Backs width k s d width (step width k s d width) → Backs width k (otherwise ∷ s) d w (step width k (otherwise ∷ s) d w)
 back_else width kind.Else s d w h = λ terminals f. record { rest = f.rest; reads = record { tree = _; reads = other f.reads.reads }; behind = f.behind }
 back_else width k s d w h =
-    lifts width k s d width (otherwise ∷ s) d w (λ terminals f. record { rest = terminals; reads = record { tree = []; reads = no_else }; behind = f }) (step width k s d width) h
+    lifts width k s d width (otherwise ∷ s) d w (none_of (ReadsElse width d) (λ terminals. no_else)) (step width k s d width) h
 
 back_close : (width : ℕ) (k : TokenKind) (s : List Want) (d w : ℕ) → Backs width k (close ∷ s) d w (step width k (close ∷ s) d w)
 back_close width kind.End s d w = λ terminals f. record { rest = terminals; reads = refl; behind = f }

@@ -30,6 +30,11 @@ pub record Followed (Reads : List Terminal → List Terminal → Type 0) (After 
   pub reads : Reads terminals rest
   pub behind : After rest
 
+-- none of the things that may come one after another
+pub none_of : {A : Type 0} (Reads : List Terminal → List A → List Terminal → Type 0) {B : List Terminal → Type 0} → ((terminals : List Terminal) → Reads terminals [] terminals)
+    → (terminals : List Terminal) → B terminals → Followed (HasTree Reads) B terminals
+none_of Reads empty terminals f = record { rest = terminals; reads = record { tree = []; reads = empty terminals }; behind = f }
+
 -- what may stand behind a thing and make it longer
 abbrev pub Longer : {A B : Type 0} → (List Terminal → A → List Terminal → Type 0) → (List Terminal → B → List Terminal → Type 0) → List Terminal → List Terminal → Type 0
 Longer First Whole terminals rest = (old : List Terminal) (first : _) → First old first terminals → HasTree Whole old rest
@@ -106,12 +111,12 @@ completes width (place_tail ∷ s) d w = let h = completes width s d width in (h
 completes width (after_name ∷ s) d w =
     let h = completes width s d width in
     (kind.LeftParen ∷ kind.RightParen ∷ kind.Semicolon ∷ h.0, record { rest = plains h.0; reads = record { tree = _; reads = call nothing }; behind = h.1 })
-completes width (statements ∷ s) d w = let h = completes width s d width in (h.0, record { rest = plains h.0; reads = record { tree = []; reads = no_statement }; behind = h.1 })
-completes width (otherwise ∷ s) d w = let h = completes width s d width in (h.0, record { rest = plains h.0; reads = record { tree = []; reads = no_else }; behind = h.1 })
-completes width (declarations ∷ s) d w = let h = completes width s d width in (h.0, record { rest = plains h.0; reads = record { tree = []; reads = none }; behind = h.1 })
+completes width (statements ∷ s) d w = let h = completes width s d width in (h.0, none_of (ReadsStatements width d) (λ terminals. no_statement) (plains h.0) h.1)
+completes width (otherwise ∷ s) d w = let h = completes width s d width in (h.0, none_of (ReadsElse width d) (λ terminals. no_else) (plains h.0) h.1)
+completes width (declarations ∷ s) d w = let h = completes width s d width in (h.0, none_of (ReadsAll (ReadsDeclaration d width)) (λ terminals. none) (plains h.0) h.1)
 completes width (bound ∷ s) d w = let h = completes width s d width in (kind.Number ∷ h.0, record { rest = plains h.0; reads = record { tree = _; reads = unsigned }; behind = h.1 })
 completes width (params ∷ s) d w = let h = completes width s d width in (kind.RightParen ∷ h.0, record { rest = plains h.0; reads = record { tree = []; reads = nothing }; behind = h.1 })
 completes width (more_params ∷ s) d w =
     let h = completes width s d width in
     (kind.RightParen ∷ h.0, record { rest = plains h.0; reads = λ old e r. record { tree = _; reads = last r }; behind = h.1 })
-completes width (locals ∷ s) d w = let h = completes width s d width in (h.0, record { rest = plains h.0; reads = record { tree = []; reads = none }; behind = h.1 })
+completes width (locals ∷ s) d w = let h = completes width s d width in (h.0, none_of (ReadsAll ReadsLocal) (λ terminals. none) (plains h.0) h.1)

@@ -4,7 +4,7 @@ use Rattle.source_lexer.specs.declared.token.TokenKind.{TokenKind}
 use Rattle.source_lexer.specs.declared.token.TokenKind.TheVariants as kind
 use Rattle.source_parser.specs.Counting.{Standing, outside, after_a_name, inside, blocks_after, standing_after, weight_of, Count, IsOver}
 use Rattle.source_parser.specs.Wants.{Want, token, inner, close, fresh, outermost, sum, sum_tail, term, term_tail, factor, index, comparison, listed, commas, place_tail, after_name, statements, otherwise, declarations, bound, params, more_params, locals}
-use Rattle.source_parser.specs.Wants.{Move, stuck, deep, on, step, moved, price, number_of}
+use Rattle.source_parser.specs.Wants.{Move, stuck, deep, on, step, moved, pay, weighs, price, number_of}
 use Rattle.source_parser.proofs.KindNumbers.{same_kind}
 use Rattle.source_parser.proofs.Backward.{step_term, step_sum, step_outermost}
 use Rattle.source_parser.proofs.CountClasses.{Class, out, named, start, during, done, anywhere, Placed, Within, needs_token, leaves_token, closes, Alone, Chain}
@@ -34,14 +34,18 @@ module _ (depth width : ℕ) where
   agrees c h p e f = record { class = c; chain = h; placed = p; depth_is = e; blocks_are = f }
 
   -- ---- expressions
+  -- a kind that has weight
+  paid : (s : List Want) (d w b n : ℕ) → n + w ≡ width → Chain during s → d + closes s ≡ depth → closes s ≡ b
+      → Keeps (pay weighs s d w) (record { blocks = b; standing = inside (suc n) })
+  paid s d zero b n p h e f = inr (omega (arith, p))
+  paid s d (suc w) b n p h e f = agrees during h (omega (arith, p)) e f
+
   at_factor : (k : TokenKind) (s : List Want) (d w b n : ℕ) → n + w ≡ width → Chain during s → d + closes s ≡ depth → closes s ≡ b
       → Keeps (step width k (factor ∷ s) d w) (after b (inside n) k)
   at_factor kind.Number s d w b n p h e f = agrees during h p e f
   at_factor kind.Name s d w b n p h e f = agrees during (fine h) p e f
-  at_factor kind.Minus s d zero b n p h e f = inr (omega (arith, p))
-  at_factor kind.Minus s d (suc w) b n p h e f = agrees during (fine h) (omega (arith, p)) e f
-  at_factor kind.LeftParen s d zero b n p h e f = inr (omega (arith, p))
-  at_factor kind.LeftParen s d (suc w) b n p h e f = agrees during (fine (fine h)) (omega (arith, p)) e f
+  at_factor kind.Minus s d w b n p h e f = paid (factor ∷ s) d w b n p (fine h) e f
+  at_factor kind.LeftParen s d w b n p h e f = paid (sum ∷ inner kind.RightParen ∷ s) d w b n p (fine (fine h)) e f
   at_factor k s d w b n p h e f = tt
 
   at_term : (k : TokenKind) (s : List Want) (d w b n : ℕ) → n + w ≡ width → Chain during s → d + closes s ≡ depth → closes s ≡ b
@@ -64,26 +68,20 @@ module _ (depth width : ℕ) where
 
   at_sum_tail : (k : TokenKind) (s : List Want) (d w b n : ℕ) → n + w ≡ width → Chain during s → d + closes s ≡ depth → closes s ≡ b
       → Keeps (step width k s d w) (after b (inside n) k) → Keeps (step width k (sum_tail ∷ s) d w) (after b (inside n) k)
-  at_sum_tail kind.Plus s d zero b n p h e f more = inr (omega (arith, p))
-  at_sum_tail kind.Plus s d (suc w) b n p h e f more = agrees during (fine (fine h)) (omega (arith, p)) e f
-  at_sum_tail kind.Minus s d zero b n p h e f more = inr (omega (arith, p))
-  at_sum_tail kind.Minus s d (suc w) b n p h e f more = agrees during (fine (fine h)) (omega (arith, p)) e f
+  at_sum_tail kind.Plus s d w b n p h e f more = paid (term ∷ sum_tail ∷ s) d w b n p (fine (fine h)) e f
+  at_sum_tail kind.Minus s d w b n p h e f more = paid (term ∷ sum_tail ∷ s) d w b n p (fine (fine h)) e f
   at_sum_tail k s d w b n p h e f more = more
 
   at_term_tail : (k : TokenKind) (s : List Want) (d w b n : ℕ) → n + w ≡ width → Chain during s → d + closes s ≡ depth → closes s ≡ b
       → Keeps (step width k s d w) (after b (inside n) k) → Keeps (step width k (term_tail ∷ s) d w) (after b (inside n) k)
-  at_term_tail kind.Star s d zero b n p h e f more = inr (omega (arith, p))
-  at_term_tail kind.Star s d (suc w) b n p h e f more = agrees during (fine (fine h)) (omega (arith, p)) e f
-  at_term_tail kind.Div s d zero b n p h e f more = inr (omega (arith, p))
-  at_term_tail kind.Div s d (suc w) b n p h e f more = agrees during (fine (fine h)) (omega (arith, p)) e f
-  at_term_tail kind.Mod s d zero b n p h e f more = inr (omega (arith, p))
-  at_term_tail kind.Mod s d (suc w) b n p h e f more = agrees during (fine (fine h)) (omega (arith, p)) e f
+  at_term_tail kind.Star s d w b n p h e f more = paid (factor ∷ term_tail ∷ s) d w b n p (fine (fine h)) e f
+  at_term_tail kind.Div s d w b n p h e f more = paid (factor ∷ term_tail ∷ s) d w b n p (fine (fine h)) e f
+  at_term_tail kind.Mod s d w b n p h e f more = paid (factor ∷ term_tail ∷ s) d w b n p (fine (fine h)) e f
   at_term_tail k s d w b n p h e f more = more
 
   at_index : (k : TokenKind) (s : List Want) (d w b n : ℕ) → n + w ≡ width → Chain during s → d + closes s ≡ depth → closes s ≡ b
       → Keeps (step width k s d w) (after b (inside n) k) → Keeps (step width k (index ∷ s) d w) (after b (inside n) k)
-  at_index kind.LeftBracket s d zero b n p h e f more = inr (omega (arith, p))
-  at_index kind.LeftBracket s d (suc w) b n p h e f more = agrees during (fine (fine h)) (omega (arith, p)) e f
+  at_index kind.LeftBracket s d w b n p h e f more = paid (sum ∷ inner kind.RightBracket ∷ s) d w b n p (fine (fine h)) e f
   at_index k s d w b n p h e f more = more
 
   at_paren : (k : TokenKind) (s : List Want) (d w b n : ℕ) → n + w ≡ width → Chain during s → d + closes s ≡ depth → closes s ≡ b

@@ -20,7 +20,7 @@ use Rattle.source_parser.specs.Grammar.{Compares, less, less_equal, greater, gre
 use Rattle.source_parser.specs.Grammar.{ReadsStatement, assign, print, read, if_statement, for_statement, while_statement, call, ReadsStatements, no_statement, ReadsElse, no_else, other, ReadsBound, unsigned, signed, ReadsRange, ReadsParam, param, ReadsLocal, ReadsDeclaration, var, array, proc, Spells}
 use Rattle.source_parser.specs.Taking.{NotKind}
 use Rattle.source_parser.proofs.Runs.{comparison_goes, term_begins, sum_begins, outermost_begins, index_ends, listed_begins}
-use Rattle.source_parser.specs.Wants.{Want, token, inner, close, fresh, outermost, sum, sum_tail, term, term_tail, factor, comparison, listed, commas, place_tail, statements, otherwise, declarations, bound, params, more_params, locals, run, spelled}
+use Rattle.source_parser.specs.Wants.{Want, token, inner, close, fresh, outermost, sum_tail, term, term_tail, factor, comparison, listed, commas, place_tail, statements, otherwise, declarations, bound, params, more_params, locals, run, spelled, wanted}
 
 -- ---- weights
 abbrev pub cost : {level : Level} {terminals rest : List Terminal} {e : Expr} → ReadsExpr level terminals e rest → ℕ
@@ -51,11 +51,6 @@ weighed (one_factor r) = weighed r
 weighed (multiplied {behind = behind} {line = line} r j q) = let h = weighed r in let k = weighed q in let l = weight_joins j line behind in omega (arith, h, k, l)
 weighed (one_term r) = weighed r
 weighed (added {behind = behind} {line = line} r j q) = let h = weighed r in let k = weighed q in let l = weight_joins j line behind in omega (arith, h, k, l)
-
-abbrev wanted : Level → Want
-wanted g.factor = factor
-wanted g.term = term
-wanted g.sum = sum
 
 abbrev goes : Level → List Want → List Want
 goes g.factor s = s

@@ -1,4 +1,5 @@
 pub mod Backward
+pub mod Chains
 pub mod Completions
 pub mod CountClasses
 pub mod CountLemmas

@@ -3,14 +3,17 @@ use Rattle.std.specs.Prelude.{◌≡◌, ℕ, ◌+◌, ◌<◌, ◌≤◌, List,
 use Rattle.source_lexer.specs.declared.token.TokenKind.TheVariants as kind
 use Rattle.source_tree.specs.declared.expression.Expr.{Expr}
 use Rattle.source_parser.specs.Terminals.{Terminal, fixed}
-use Rattle.source_parser.specs.Grammar.{Level, ReadsExpr, ReadsCommas, weight}
-use Rattle.source_parser.specs.Wants.{Want}
+use Rattle.source_parser.specs.Grammar.{ReadsExpr, ReadsCommas, weight}
+use Rattle.source_parser.specs.declared.expression.Chain.{Chain}
 use Rattle.source_parser.specs.Landings.{Leads}
+use Rattle.source_parser.specs.Taking.{level_of}
+use Rattle.source_parser.specs.Wants.{wanted}
+use Rattle.source_parser.proofs.Chains.{tail_of}
 
--- expressions of a level, joined from the left
-pub record Joining (level : Level) (whole tail : Want) (start : List Terminal) (budget : ℕ) (left : Expr) (now : List Terminal) (weight_left : ℕ) : Type 0 where
-  pub reads : ReadsExpr level start left now
-  pub leads : (depth : ℕ) → Leads (whole ∷ []) start depth budget (tail ∷ []) now depth weight_left
+-- the parts of a sum or of a term, joined from the left
+pub record Joining (c : Chain) (start : List Terminal) (budget : ℕ) (left : Expr) (now : List Terminal) (weight_left : ℕ) : Type 0 where
+  pub reads : ReadsExpr (level_of c) start left now
+  pub leads : (depth : ℕ) → Leads (wanted (level_of c) ∷ []) start depth budget (tail_of c ∷ []) now depth weight_left
   pub weight_paid : weight start + weight_left ≡ weight now + budget
   pub shorter : length now < length start
 

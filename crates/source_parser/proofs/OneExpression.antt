@@ -8,7 +8,7 @@ use Rattle.source_tree.specs.declared.expression.Operator.TheVariants as operato
 use Rattle.source_tree.specs.declared.expression.Expr.{Expr, Number, Name as Variable, Element, Neg, Binary}
 use Rattle.source_parser.specs.Terminals.{Terminal, identifier, literal, fixed}
 use Rattle.source_parser.specs.Grammar as g
-use Rattle.source_parser.specs.Grammar.{Level, factor, term, sum, Joins, plus, minus, times, divided, remainder, ReadsExpr}
+use Rattle.source_parser.specs.Grammar.{Level, factor, term, sum, below, Joins, plus, minus, times, divided, remainder, ReadsExpr}
 
 -- ---- what may follow
 -- a kind that would make an expression of a level longer
@@ -30,12 +30,6 @@ Ends level [] = Unit {0}
 Ends level (identifier name ∷ terminals) = Unit {0}
 Ends level (literal value line ∷ terminals) = Unit {0}
 Ends level (fixed kind line ∷ terminals) = prolongs level kind ≡ false
-
--- the level of what is joined
-abbrev below : Level → Level
-below factor = factor
-below term = factor
-below sum = term
 
 prolongs_below : (level : Level) (kind : TokenKind) → prolongs level kind ≡ false → prolongs (below level) kind ≡ false
 prolongs_below factor kind h = h

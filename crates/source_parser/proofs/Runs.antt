@@ -1,13 +1,11 @@
 -- What the kinds in front make of what is wanted first.
-use Rattle.std.proofs.Common.{◌≡◌, ℕ, suc, List, [], ◌∷◌, refl}
+use Rattle.std.proofs.Common.{◌≡◌, ℕ, List, [], ◌∷◌, refl}
 use Rattle.source_lexer.specs.declared.token.TokenKind.{TokenKind}
 use Rattle.source_lexer.specs.declared.token.TokenKind.TheVariants as kind
-use Rattle.source_tree.specs.declared.expression.Operator.{Operator}
 use Rattle.source_tree.specs.declared.expression.Comparison.{Comparison}
-use Rattle.source_parser.specs.Grammar as g
-use Rattle.source_parser.specs.Grammar.{Level, Joins, plus, minus, times, divided, remainder, Compares, less, less_equal, greater, greater_equal, equal, not_equal}
+use Rattle.source_parser.specs.Grammar.{Compares, less, less_equal, greater, greater_equal, equal, not_equal}
 use Rattle.source_parser.specs.Taking.{NotKind}
-use Rattle.source_parser.specs.Wants.{Want, token, fresh, outermost, sum, sum_tail, term, term_tail, factor, index, comparison, listed, commas, place_tail, after_name, statements, otherwise, declarations, bound, params, more_params, locals, run, stopped, too_deep}
+use Rattle.source_parser.specs.Wants.{Want, token, fresh, outermost, sum, sum_tail, term, term_tail, factor, index, comparison, listed, commas, place_tail, after_name, statements, otherwise, declarations, bound, params, more_params, locals, run, stopped}
 
 module _ (width : ℕ) (s : List Want) (d w : ℕ) where
   -- ---- expressions
@@ -41,22 +39,6 @@ module _ (width : ℕ) (s : List Want) (d w : ℕ) where
   index_ends (kind.LeftBracket ∷ ks) not = absurd (not ks refl)
   index_ends (k ∷ ks) not = refl
 
-  abbrev NoSign : Level → List TokenKind → Type 0
-  NoSign level ks = (sign : TokenKind) (operator : Operator) → Joins level sign operator → NotKind sign ks
-
-  pub sum_ends : (ks : List TokenKind) → NoSign g.sum ks → run width ks (sum_tail ∷ s) d w ≡ run width ks s d w
-  sum_ends [] not = refl
-  sum_ends (kind.Plus ∷ ks) not = absurd (not _ _ plus ks refl)
-  sum_ends (kind.Minus ∷ ks) not = absurd (not _ _ minus ks refl)
-  sum_ends (k ∷ ks) not = refl
-
-  pub term_ends : (ks : List TokenKind) → NoSign g.term ks → run width ks (term_tail ∷ s) d w ≡ run width ks s d w
-  term_ends [] not = refl
-  term_ends (kind.Star ∷ ks) not = absurd (not _ _ times ks refl)
-  term_ends (kind.Div ∷ ks) not = absurd (not _ _ divided ks refl)
-  term_ends (kind.Mod ∷ ks) not = absurd (not _ _ remainder ks refl)
-  term_ends (k ∷ ks) not = refl
-
   pub no_factor : (ks : List TokenKind) → NotKind kind.Minus ks → NotKind kind.LeftParen ks → NotKind kind.Number ks → NotKind kind.Name ks → run width ks (factor ∷ s) d w ≡ stopped ks
   no_factor [] a b c e = refl
   no_factor (kind.Minus ∷ ks) a b c e = absurd (a ks refl)
@@ -64,25 +46,6 @@ module _ (width : ℕ) (s : List Want) (d w : ℕ) where
   no_factor (kind.Number ∷ ks) a b c e = absurd (c ks refl)
   no_factor (kind.Name ∷ ks) a b c e = absurd (e ks refl)
   no_factor (k ∷ ks) a b c e = refl
-
-  -- an operator, taken or one too many
-  pub sum_goes : {sign : TokenKind} {op : Operator} → Joins g.sum sign op → (ks : List TokenKind) → run width (sign ∷ ks) (sum_tail ∷ s) d (suc w) ≡ run width ks (term ∷ sum_tail ∷ s) d w
-  sum_goes plus ks = refl
-  sum_goes minus ks = refl
-
-  pub term_goes : {sign : TokenKind} {op : Operator} → Joins g.term sign op → (ks : List TokenKind) → run width (sign ∷ ks) (term_tail ∷ s) d (suc w) ≡ run width ks (factor ∷ term_tail ∷ s) d w
-  term_goes times ks = refl
-  term_goes divided ks = refl
-  term_goes remainder ks = refl
-
-  pub sum_deep : {sign : TokenKind} {op : Operator} → Joins g.sum sign op → (ks : List TokenKind) → run width (sign ∷ ks) (sum_tail ∷ s) d 0 ≡ too_deep (sign ∷ ks)
-  sum_deep plus ks = refl
-  sum_deep minus ks = refl
-
-  pub term_deep : {sign : TokenKind} {op : Operator} → Joins g.term sign op → (ks : List TokenKind) → run width (sign ∷ ks) (term_tail ∷ s) d 0 ≡ too_deep (sign ∷ ks)
-  term_deep times ks = refl
-  term_deep divided ks = refl
-  term_deep remainder ks = refl
 
   -- ---- between expressions
   pub commas_stop : (ks : List TokenKind) → NotKind kind.Comma ks → NotKind kind.RightParen ks → run width ks (commas ∷ s) d w ≡ stopped ks

@@ -1,17 +1,16 @@
 -- What was taken, or was not there.
-use Rattle.std.proofs.Common.{◌≡◌, ℕ, suc, List, ◌∷◌, Option, Some, None, Result, Ok, Err, true, false, subst, ◌∙◌}
+use Rattle.std.proofs.Common.{◌≡◌, ℕ, suc, List, ◌∷◌, Option, Some, None, Ok, true, false, subst, ◌∙◌}
 use Rattle.std.specs.Prelude.{is_some}
-use Rattle.std.specs.Result.{IsErrAnd}
 use Rattle.source_lexer.specs.declared.token.TokenKind.{TokenKind}
 use Rattle.source_lexer.specs.declared.token.TokenKind.TheVariants as kind
 use Rattle.source_tree.specs.declared.name.Name.{Name}
-use Rattle.source_tree.specs.declared.expression.Operator.{Operator}
+use Rattle.source_tree.specs.declared.expression.Operator.TheVariants as operator
+use Rattle.source_parser.specs.declared.expression.Chain.{Chain}
+use Rattle.source_parser.specs.declared.expression.Chain.TheVariants as chain
 use Rattle.source_tree.specs.declared.expression.Comparison.{Comparison}
-use Rattle.source_parser.specs.declared.fault.Fault.{Fault}
-use Rattle.source_parser.specs.declared.fault.Fault.TheVariants.{Deep}
 use Rattle.source_parser.specs.Terminals.{Terminal, identifier, fixed, kinds_of}
-use Rattle.source_parser.specs.Grammar.{Level, Joins, Compares, less, less_equal, greater, greater_equal, equal, not_equal}
-use Rattle.source_parser.specs.Taking.{NotKind, Misses, Stands, TakesFixed, TakesIdentifier, TakesWithin, TakesWeighted, TakesOperator, ExpectsComparison}
+use Rattle.source_parser.specs.Grammar.{Joins, plus, minus, times, divided, remainder, Compares, less, less_equal, greater, greater_equal, equal, not_equal}
+use Rattle.source_parser.specs.Taking.{level_of, NotKind, Misses, TakesFixed, TakesIdentifier, TakesWithin, TakesWeighted, ExpectsComparison}
 
 pub taken : (kind : TokenKind) (old : List Terminal) (found : Option ℕ) (new : List Terminal) → TakesFixed kind old found new → true ≡ is_some found
     → (line : ℕ) × (old ≡ fixed kind line ∷ new)
@@ -45,21 +44,23 @@ pub identifier_taken : (old : List Terminal) (found : Option Name) (new : List T
 identifier_taken old None new name h e = absurd cc
 identifier_taken old (Some own) new name h e = let same : own ≡ name = cc in rw same at h
 
--- ---- a sign that was taken, or was one too many, is an operator
-pub operator_found : {level : Level} {sign : TokenKind} {operator : Operator} → Joins level sign operator
-    → (old : List Terminal) (weight_left line : ℕ) (new : List Terminal) (left : ℕ) → TakesWeighted sign old weight_left (Ok (Some line)) new left
-    → TakesOperator level old weight_left (Ok (Some (operator, line))) new left
-operator_found {sign = sign} joins old weight_left line new left taken = (sign, joins, taken.0, taken.1)
+-- ---- the operators of sums and terms
+pub plus_joins : {c : Chain} {k : TokenKind} → c ≡ chain.Sum → k ≡ kind.Plus → Joins (level_of c) k operator.Add
+plus_joins c k = rw (c, k) plus
 
-pub operator_past_limit : {level : Level} {sign : TokenKind} {operator : Operator} → Joins level sign operator
-    → (old now new : List Terminal) (weight_left still left : ℕ) {fault : Fault} (result : Result (Option (Operator × ℕ)) Fault)
-    → now ≡ old → still ≡ weight_left → (fault ≡ Deep) × (still ≡ 0) × Stands sign now new → IsErrAnd result (λ own. own ≡ fault)
-    → TakesOperator level old weight_left result new left
-operator_past_limit joins old now new weight_left still left (Ok found) same kept stands own = absurd own
-operator_past_limit {sign = sign} {operator = operator} joins old now new weight_left still left (Err fault) same kept stands own =
-    let all = rw (same, kept) at stands in
-    (own ∙ all.0, all.1, sign, operator, joins, all.2)
+pub minus_joins : {c : Chain} {k : TokenKind} → c ≡ chain.Sum → k ≡ kind.Minus → Joins (level_of c) k operator.Sub
+minus_joins c k = rw (c, k) minus
 
+pub times_joins : {c : Chain} {k : TokenKind} → c ≡ chain.Term → k ≡ kind.Star → Joins (level_of c) k operator.Mul
+times_joins c k = rw (c, k) times
+
+pub divided_joins : {c : Chain} {k : TokenKind} → c ≡ chain.Term → k ≡ kind.Div → Joins (level_of c) k operator.Div
+divided_joins c k = rw (c, k) divided
+
+pub remainder_joins : {c : Chain} {k : TokenKind} → c ≡ chain.Term → k ≡ kind.Mod → Joins (level_of c) k operator.Mod
+remainder_joins c k = rw (c, k) remainder
+
+-- ---- a comparison
 -- a comparison that was taken after others that weren't
 pub comparison_found : {sign : TokenKind} {comparison : Comparison} → Compares sign comparison
     → (old now new : List Terminal) (found : Option ℕ) → now ≡ old → true ≡ is_some found → TakesFixed sign now found new

@@ -47,6 +47,12 @@ pub data Level : Type 0 where
   term : Level
   sum : Level
 
+-- the level of what operators of a level join
+abbrev pub below : Level → Level
+below factor = factor
+below term = factor
+below sum = term
+
 -- the operators that join expressions of a level, from the left
 pub data Joins : Level → TokenKind → Operator → Type 0 where
   plus : Joins sum kind.Plus operator.Add

@@ -8,7 +8,10 @@ use Rattle.source_tree.specs.declared.expression.Operator.{Operator}
 use Rattle.source_tree.specs.declared.expression.Comparison.{Comparison}
 use Rattle.source_parser.specs.declared.fault.Fault.{Fault}
 use Rattle.source_parser.specs.declared.fault.Fault.TheVariants.{Stops, Deep, NoMemory}
+use Rattle.source_parser.specs.declared.expression.Chain.{Chain}
+use Rattle.source_parser.specs.declared.expression.Chain.TheVariants as chain
 use Rattle.source_parser.specs.Terminals.{Terminal, identifier, literal, fixed, kinds_of}
+use Rattle.source_parser.specs.Grammar as g
 use Rattle.source_parser.specs.Grammar.{Level, Joins, Compares}
 
 -- a kind that stands for itself: a keyword or a symbol
@@ -74,6 +77,11 @@ abbrev pub TakesWeighted : TokenKind → List Terminal → ℕ → Result (Optio
 TakesWeighted kind old weight_left (Ok None) new left = (left ≡ weight_left) × Misses kind old new
 TakesWeighted kind old weight_left (Ok (Some line)) new left = (old ≡ fixed kind line ∷ new) × (weight_left ≡ suc left)
 TakesWeighted kind old weight_left (Err fault) new left = (fault ≡ Deep) × (weight_left ≡ 0) × Stands kind old new
+
+-- the level of a sum, and of a term
+abbrev pub level_of : Chain → Level
+level_of chain.Sum = g.sum
+level_of chain.Term = g.term
 
 -- an operator of a level
 abbrev pub TakesOperator : Level → List Terminal → ℕ → Result (Option (Operator × ℕ)) Fault → List Terminal → ℕ → Type 0

@@ -2,7 +2,8 @@
 use Rattle.std.specs.Prelude.{ℕ, zero, suc, Bool, true, false, List, [], ◌∷◌, ◌++◌, Option, Some, None, nat_eq, if◌then◌else◌}
 use Rattle.source_lexer.specs.declared.token.TokenKind.{TokenKind}
 use Rattle.source_lexer.specs.declared.token.TokenKind.TheVariants as kind
-use Rattle.source_parser.specs.Grammar.{is_weighted}
+use Rattle.source_parser.specs.Grammar as g
+use Rattle.source_parser.specs.Grammar.{Level, is_weighted}
 
 -- What may be wanted next. A want without a comment is the thing of the grammar that it is named for.
 pub data Want : Type 0 where
@@ -236,6 +237,12 @@ finish (want ∷ s) = if may_end want then finish s else stopped []
 abbrev pub run : ℕ → List TokenKind → List Want → ℕ → ℕ → Outcome
 run width [] s d w = finish s
 run width (k ∷ ks) s d w = elim (step width k s d w) [ stuck ↦ stopped (k ∷ ks) | deep ↦ too_deep (k ∷ ks) | on s' d' w' ↦ run width ks s' d' w' ]
+
+-- ---- what is wanted of an expression of a level
+abbrev pub wanted : Level → Want
+wanted g.factor = factor
+wanted g.term = term
+wanted g.sum = sum
 
 -- ---- what is wanted of things that begin with no want of their own
 abbrev pub range_wanted : List Want

@@ -1,11 +1,12 @@
-ghost use Rattle.std.specs.Prelude.{ℕ, ◌≡◌, ◌+◌, ◌≤◌, ◌∷◌, [], IfOk, OnOk, length};
+ghost use Rattle.std.specs.Prelude.{ℕ, ◌≡◌, ◌+◌, ◌≤◌, ◌∷◌, [], IfOk, MatchOption, OnOk, length};
 ghost use Rattle.source_parser.specs.Limits.{weight_limit};
-ghost use Rattle.source_parser.specs.Grammar.{factor, term, sum, weight, ReadsExpr, ReadsOutermost};
+ghost use Rattle.source_parser.specs.Grammar.{below, factor, weight, Joins, ReadsExpr, ReadsOutermost};
 ghost use Rattle.source_parser.specs.Landings.{Lands};
 ghost use Rattle.source_parser.specs.Terminals.{identifier};
-ghost use Rattle.source_parser.specs.Taking.{Consumes, ConsumesNext, IsFixed, TakesOperator, TakesWeighted};
-ghost use Rattle.source_parser.specs.Wants.{outermost, factor as wants_factor, index as wants_index, sum as wants_sum, term as wants_term};
+ghost use Rattle.source_parser.specs.Taking.{level_of, Consumes, ConsumesNext, IsFixed, TakesOperator, TakesWeighted};
+ghost use Rattle.source_parser.specs.Wants.{outermost, factor as wants_factor, index as wants_index, wanted};
 ghost use Rattle.source_tree.specs.declared.expression.Expr.{Binary};
+ghost use Rattle.source_tree.specs.declared.expression.Operator.{Operator};
 
 use crate::fault::Fault;
 use crate::reader::Reader;
@@ -17,6 +18,32 @@ use std::alloc::{AllocError, Global};
 /// How many of `+`, `-`, `*`, `div`, `mod`, `(` and `[` an outermost expression may have.
 const WEIGHT_LIMIT: usize = 200;
 
+/// What operators of one level join, from the left.
+#[derive(Clone, Copy)]
+enum Chain {
+    /// Terms with `+` and `-` between them.
+    Sum,
+    /// Factors with `*`, `div` and `mod` between them.
+    Term,
+}
+
+impl Chain {
+    /// The operator that a kind of tokens stands for between two parts.
+    #[tactic(auto, using(crate::proofs::Taken::plus_joins, crate::proofs::Taken::minus_joins, crate::proofs::Taken::times_joins, crate::proofs::Taken::divided_joins, crate::proofs::Taken::remainder_joins))]
+    fn operator(self, kind: TokenKind) -> Option<Operator>
+        ensures { MatchOption result ((operator : Operator) → Joins (level_of self) kind operator → ⊥) (Joins (level_of self) kind) }
+    {
+        match (self, kind) {
+            (Chain::Sum, TokenKind::Plus) => Some(Operator::Add),
+            (Chain::Sum, TokenKind::Minus) => Some(Operator::Sub),
+            (Chain::Term, TokenKind::Star) => Some(Operator::Mul),
+            (Chain::Term, TokenKind::Div) => Some(Operator::Div),
+            (Chain::Term, TokenKind::Mod) => Some(Operator::Mod),
+            _ => None,
+        }
+    }
+}
+
 /// An expression that isn't inside another.
 pub fn expr(alloc: Global, reader: &mut Reader<'_>) -> Result<Expr, Fault>
     ensures value { IfOk result (λ e. ReadsOutermost weight_limit reader.old e reader.new) }
@@ -24,39 +51,49 @@ pub fn expr(alloc: Global, reader: &mut Reader<'_>) -> Result<Expr, Fault>
     ensures shorter { Consumes reader.old result reader.new }
 {
     let mut weight_left = WEIGHT_LIMIT;
-    sum(alloc, reader, &mut weight_left)
+    parts(alloc, reader, &mut weight_left, Chain::Sum)
 }
 
-/// Terms with `+` and `-` between them, as many as stand there.
+/// Parts of a sum, or of a term, with its operators between them, as many as stand there.
 #[cycle(expression)]
-fn sum(alloc: Global, reader: &mut Reader<'_>, weight_left: &mut usize) -> Result<Expr, Fault>
-    ensures value { IfOk result (λ e. ReadsExpr sum reader.old e reader.new) }
-    ensures lands { (depth : ℕ) → Lands (wants_sum ∷ []) reader.old depth weight_left.old result reader.new depth weight_left.new }
+fn parts(
+    alloc: Global,
+    reader: &mut Reader<'_>,
+    weight_left: &mut usize,
+    chain: Chain,
+) -> Result<Expr, Fault>
+    ensures value { IfOk result (λ e. ReadsExpr (level_of chain) reader.old e reader.new) }
+    ensures lands { (depth : ℕ)
+        → Lands (wanted (level_of chain) ∷ []) reader.old depth weight_left.old result reader.new depth weight_left.new }
     ensures weight_paid { OnOk result (weight reader.old + weight_left.new ≡ weight reader.new + weight_left.old) }
     ensures shorter { Consumes reader.old result reader.new }
 {
-    let mut left = term(alloc, reader, weight_left)?;
-    while let Some((operator, line)) = sign_of_sum(reader, weight_left)? {
-        let right = term(alloc, reader, weight_left)?;
+    let mut left = part(alloc, reader, weight_left, chain)?;
+    while let Some((operator, line)) = sign(reader, weight_left, chain)? {
+        let right = part(alloc, reader, weight_left, chain)?;
         left = joined(alloc, left, operator, right, line)?;
     }
     Ok(left)
 }
 
-/// Factors with `*`, `div` and `mod` between them, as many as stand there.
+/// A part of a sum, or of a term.
 #[cycle(expression)]
-fn term(alloc: Global, reader: &mut Reader<'_>, weight_left: &mut usize) -> Result<Expr, Fault>
-    ensures value { IfOk result (λ e. ReadsExpr term reader.old e reader.new) }
-    ensures lands { (depth : ℕ) → Lands (wants_term ∷ []) reader.old depth weight_left.old result reader.new depth weight_left.new }
+fn part(
+    alloc: Global,
+    reader: &mut Reader<'_>,
+    weight_left: &mut usize,
+    chain: Chain,
+) -> Result<Expr, Fault>
+    ensures value { IfOk result (λ e. ReadsExpr (below (level_of chain)) reader.old e reader.new) }
+    ensures lands { (depth : ℕ)
+        → Lands (wanted (below (level_of chain)) ∷ []) reader.old depth weight_left.old result reader.new depth weight_left.new }
     ensures weight_paid { OnOk result (weight reader.old + weight_left.new ≡ weight reader.new + weight_left.old) }
     ensures shorter { Consumes reader.old result reader.new }
 {
-    let mut left = factor(alloc, reader, weight_left)?;
-    while let Some((operator, line)) = sign_of_term(reader, weight_left)? {
-        let right = factor(alloc, reader, weight_left)?;
-        left = joined(alloc, left, operator, right, line)?;
+    match chain {
+        Chain::Sum => parts(alloc, reader, weight_left, Chain::Term),
+        Chain::Term => factor(alloc, reader, weight_left),
     }
-    Ok(left)
 }
 
 /// A number, a name, an element, or an expression after `-` or in brackets.
@@ -73,7 +110,7 @@ fn factor(alloc: Global, reader: &mut Reader<'_>, weight_left: &mut usize) -> Re
         return Ok(Expr::Neg { operand, line });
     }
     if take_weighted(reader, TokenKind::LeftParen, weight_left)?.is_some() {
-        let inner = sum(alloc, reader, weight_left)?;
+        let inner = parts(alloc, reader, weight_left, Chain::Sum)?;
         reader.expect(TokenKind::RightParen)?;
         return Ok(inner);
     }
@@ -100,7 +137,7 @@ fn variable(
     if take_weighted(reader, TokenKind::LeftBracket, weight_left)?.is_none() {
         return Ok(Expr::Name(name));
     }
-    let index = sum(alloc, reader, weight_left)?;
+    let index = parts(alloc, reader, weight_left, Chain::Sum)?;
     reader.expect(TokenKind::RightBracket)?;
     let index = Boxed::new(alloc, index)?;
     Ok(Expr::Element { name, index })
@@ -123,41 +160,25 @@ fn take_weighted(
     Ok(found)
 }
 
-/// `+` or `-`, with its line.
-fn sign_of_sum(
+/// An operator of a sum, or of a term, and its line, where one stands next, which is read.
+fn sign(
     reader: &mut Reader<'_>,
     weight_left: &mut usize,
+    chain: Chain,
 ) -> Result<Option<(Operator, u32)>, Fault>
-    ensures value { TakesOperator sum reader.old weight_left.old result reader.new weight_left.new }
+    ensures value { TakesOperator (level_of chain) reader.old weight_left.old result reader.new weight_left.new }
     ensures shorter { ConsumesNext reader.old result reader.new }
 {
-    if let Some(line) = take_weighted(reader, TokenKind::Plus, weight_left)? {
-        return Ok(Some((Operator::Add, line)));
+    let Some(kind) = reader.kind() else {
+        return Ok(None);
+    };
+    let Some(operator) = chain.operator(kind) else {
+        return Ok(None);
+    };
+    match take_weighted(reader, kind, weight_left)? {
+        Some(line) => Ok(Some((operator, line))),
+        None => Ok(None),
     }
-    if let Some(line) = take_weighted(reader, TokenKind::Minus, weight_left)? {
-        return Ok(Some((Operator::Sub, line)));
-    }
-    Ok(None)
-}
-
-/// `*`, `div` or `mod`, with its line.
-fn sign_of_term(
-    reader: &mut Reader<'_>,
-    weight_left: &mut usize,
-) -> Result<Option<(Operator, u32)>, Fault>
-    ensures value { TakesOperator term reader.old weight_left.old result reader.new weight_left.new }
-    ensures shorter { ConsumesNext reader.old result reader.new }
-{
-    if let Some(line) = take_weighted(reader, TokenKind::Star, weight_left)? {
-        return Ok(Some((Operator::Mul, line)));
-    }
-    if let Some(line) = take_weighted(reader, TokenKind::Div, weight_left)? {
-        return Ok(Some((Operator::Div, line)));
-    }
-    if let Some(line) = take_weighted(reader, TokenKind::Mod, weight_left)? {
-        return Ok(Some((Operator::Mod, line)));
-    }
-    Ok(None)
 }
 
 /// Two expressions with an operator between them.

@@ -1,7 +1,8 @@
-ghost use Rattle.std.specs.Prelude.{◌≡◌, ◌<◌, ◌≤◌, ◌≤ℤ◌, IfOk, IfSome, MatchOption, MatchResult, length, pos};
+ghost use Rattle.std.specs.Prelude.{◌≡◌, ◌<◌, ◌≤◌, ◌≤ℤ◌, [], ◌∷◌, IfOk, IfSome, List, MatchOption, MatchResult, length, pos};
 ghost use Rattle.std.specs.List.{All};
 ghost use Rattle.source_lexer.specs.Placed.{IsPlaced};
-ghost use Rattle.source_parser.specs.Terminals.{terminals_of, first_line};
+ghost use Rattle.source_lexer.specs.declared.token.TokenKind.{TokenKind};
+ghost use Rattle.source_parser.specs.Terminals.{terminals_of, first_line, kinds_of};
 ghost use Rattle.source_parser.specs.Taking.{Consumes, ConsumesNext, IsFixed, TakesFixed, TakesLiteral, TakesIdentifier, TakesWithin, ExpectsFixed, ExpectsLiteral, ExpectsIdentifier};
 
 use crate::fault::Fault;
@@ -58,6 +59,13 @@ impl<'a> Reader<'a> {
             Some(token) => token.line,
             None => 0,
         }
+    }
+
+    /// The kind of the next token.
+    pub fn kind(&self) -> Option<TokenKind>
+        ensures { MatchOption result (kinds_of self.now ≡ []) (λ kind. (rest : List TokenKind) × (kinds_of self.now ≡ kind ∷ rest)) }
+    {
+        Some(self.rest.first()?.kind)
     }
 
     /// The line of a keyword or symbol, which is read, where it stands next.

@@ -1,10 +1,10 @@
 ghost use Rattle.std.specs.Prelude.{ℕ, suc, ◌++◌, ◌≤◌, ◌∷◌, [], IfOk, length};
-ghost use Rattle.source_lexer.specs.declared.token.TokenKind.TheVariants.{Becomes as BecomesToken, Do as DoToken, End as EndToken, For as ForToken, If as IfToken, Limit as LimitToken, Name as NameToken, Number as NumberToken, Print as PrintToken, Read as ReadToken, Semicolon as SemicolonToken, Then as ThenToken, To as ToToken, While as WhileToken};
+ghost use Rattle.source_lexer.specs.declared.token.TokenKind.TheVariants.{Becomes as BecomesToken, Do as DoToken, End as EndToken, For as ForToken, If as IfToken, Name as NameToken, Number as NumberToken, Print as PrintToken, Read as ReadToken, Semicolon as SemicolonToken, To as ToToken, While as WhileToken};
 ghost use Rattle.source_parser.specs.Limits.{weight_limit};
 ghost use Rattle.source_parser.specs.Grammar.{ReadsCondition, ReadsElse, ReadsListed, ReadsOutermost, ReadsPlace, ReadsStatement, ReadsStatements};
 ghost use Rattle.source_parser.specs.Landings.{Lands, LandsNext};
 ghost use Rattle.source_parser.specs.Parts.{Closed, ReadsBounds, ReadsBranches, ReadsLiteral, ReadsName, ReadsNext};
-ghost use Rattle.source_parser.specs.Taking.{Consumes, ConsumesNext, ExpectsComparison};
+ghost use Rattle.source_parser.specs.Taking.{Consumes, ConsumesNext, ExpectsComparison, IsFixed};
 ghost use Rattle.source_parser.specs.Terminals.{fixed, identifier};
 ghost use Rattle.source_parser.specs.Wants.{after_name, close, comparison as wants_comparison, condition_wanted, for_wanted, if_wanted, listed, otherwise, outermost, place_tail, statements as wants_statements, token, while_wanted};
 
@@ -78,7 +78,7 @@ fn if_statement(
     ensures lands { Lands (if_wanted) reader.old depth weight_limit result reader.new (suc depth) weight_limit }
     ensures shorter { Consumes reader.old result reader.new }
 {
-    let condition = if_condition(alloc, reader)?;
+    let condition = condition_before(alloc, reader, TokenKind::Then)?;
     let (first, second) = branches(alloc, reader, depth)?;
     Ok(Statement::If {
         condition,
@@ -170,7 +170,7 @@ fn while_statement(
     ensures lands { Lands (while_wanted) reader.old depth weight_limit result reader.new (suc depth) weight_limit }
     ensures shorter { Consumes reader.old result reader.new }
 {
-    let condition = limited_condition(alloc, reader)?;
+    let condition = condition_before(alloc, reader, TokenKind::Limit)?;
     let limit = limit(reader)?;
     let body = body(alloc, reader, depth)?;
     Ok(Statement::While {
@@ -181,14 +181,19 @@ fn while_statement(
     })
 }
 
-/// `condition then`
-fn if_condition(alloc: Global, reader: &mut Reader<'_>) -> Result<Condition, Fault>
-    ensures value { IfOk result (λ found. Closed (ReadsCondition weight_limit) ThenToken reader.old found reader.new) }
-    ensures lands { (depth spare : ℕ) → Lands (condition_wanted ++ token ThenToken ∷ []) reader.old depth spare result reader.new depth weight_limit }
+/// A condition, and the keyword after it.
+fn condition_before(
+    alloc: Global,
+    reader: &mut Reader<'_>,
+    keyword: TokenKind,
+) -> Result<Condition, Fault>
+    requires { IsFixed keyword }
+    ensures value { IfOk result (λ found. Closed (ReadsCondition weight_limit) keyword reader.old found reader.new) }
+    ensures lands { (depth spare : ℕ) → Lands (condition_wanted ++ token keyword ∷ []) reader.old depth spare result reader.new depth weight_limit }
     ensures shorter { Consumes reader.old result reader.new }
 {
     let condition = condition(alloc, reader)?;
-    reader.expect(TokenKind::Then)?;
+    reader.expect(keyword)?;
     Ok(condition)
 }
 
@@ -214,17 +219,6 @@ fn bounds(alloc: Global, reader: &mut Reader<'_>) -> Result<(Expr, Expr), Fault>
     let last = expr(alloc, reader)?;
     reader.expect(TokenKind::Do)?;
     Ok((first, last))
-}
-
-/// `condition limit`
-fn limited_condition(alloc: Global, reader: &mut Reader<'_>) -> Result<Condition, Fault>
-    ensures value { IfOk result (λ found. Closed (ReadsCondition weight_limit) LimitToken reader.old found reader.new) }
-    ensures lands { (depth spare : ℕ) → Lands (condition_wanted ++ token LimitToken ∷ []) reader.old depth spare result reader.new depth weight_limit }
-    ensures shorter { Consumes reader.old result reader.new }
-{
-    let condition = condition(alloc, reader)?;
-    reader.expect(TokenKind::Limit)?;
-    Ok(condition)
 }
 
 /// `number do`

@@ -10,7 +10,7 @@ use Rattle.source_tree.specs.declared.expression.Expr.TheOpen as expr
 use Rattle.source_tree.specs.declared.statement.Place.{Place}
 use Rattle.source_tree.specs.declared.statement.Statement.{Statement, Assign, Print, Read, If, For, While, Call, ind-Statement, roll-Statement, map-Statement}
 use Rattle.source_tree.specs.declared.statement.Statement.TheOpen as statement
-use Rattle.source_tree.proofs.Equations.{evaluation-Number, evaluation-Name, evaluation-Element, evaluation-Neg, evaluation-Binary, execution-Assign, execution-Print, execution-Read, execution-If, execution-For, execution-While, execution-Call}
+use Rattle.source_tree.proofs.FoldEquations.{fold-Number, fold-Name, fold-Element, fold-Neg, fold-Binary, fold-Assign, fold-Print, fold-Read, fold-If, fold-For, fold-While, fold-Call}
 
 -- P holds of each member of a list
 abbrev pub EachOf : {A : Type 0} → (A → Type 0) → List A → Type 0
@@ -89,12 +89,12 @@ module _ (P : Evaluation → Type 0)
   pub each_evaluation : (e : Expr) → P (evaluation e)
   each_evaluation =
       each_expr (λ e. P (evaluation e))
-      (λ value line. at_expr (Number value line) _ (evaluation-Number value line) (number value line))
-      (λ x. at_expr (Name x) _ (evaluation-Name x) (name x))
-      (λ x index h. at_expr (Element x index) _ (evaluation-Element x index) (element x (evaluation index) h))
-      (λ operand line h. at_expr (Neg operand line) _ (evaluation-Neg operand line) (neg (evaluation operand) line h))
+      (λ value line. at_expr (Number value line) _ (fold-Number evaluation_of_node value line) (number value line))
+      (λ x. at_expr (Name x) _ (fold-Name evaluation_of_node x) (name x))
+      (λ x index h. at_expr (Element x index) _ (fold-Element evaluation_of_node x index) (element x (evaluation index) h))
+      (λ operand line h. at_expr (Neg operand line) _ (fold-Neg evaluation_of_node operand line) (neg (evaluation operand) line h))
       (λ left o right line h k.
-      at_expr (Binary left o right line) _ (evaluation-Binary left o right line)
+      at_expr (Binary left o right line) _ (fold-Binary evaluation_of_node left o right line)
       (binary (evaluation left) o (evaluation right) line h k))
 
 module _ (meant : Expr → Evaluation) (P : Execution → Type 0)
@@ -119,19 +119,19 @@ module _ (meant : Expr → Evaluation) (P : Execution → Type 0)
   each_execution =
       each_statement (λ s. P (execution_by meant s))
       (λ place value line.
-      at_statement (Assign place value line) _ (execution-Assign meant place value line) (assign place value line))
-      (λ value line. at_statement (Print value line) _ (execution-Print meant value line) (print value line))
-      (λ place line. at_statement (Read place line) _ (execution-Read meant place line) (read place line))
+      at_statement (Assign place value line) _ (fold-Assign (execution_of_node meant) place value line) (assign place value line))
+      (λ value line. at_statement (Print value line) _ (fold-Print (execution_of_node meant) value line) (print value line))
+      (λ place line. at_statement (Read place line) _ (fold-Read (execution_of_node meant) place line) (read place line))
       (λ condition first second line h k.
-      at_statement (If condition first second line) _ (execution-If meant condition first second line)
+      at_statement (If condition first second line) _ (fold-If (execution_of_node meant) condition first second line)
       (choice condition (map (execution_by meant) first) (map (execution_by meant) second) line (mapped first h) (mapped second k)))
       (λ x first last body line h.
-      at_statement (For x first last body line) _ (execution-For meant x first last body line)
+      at_statement (For x first last body line) _ (fold-For (execution_of_node meant) x first last body line)
       (for_loop x first last (map (execution_by meant) body) line (mapped body h)))
       (λ condition limit body line h.
-      at_statement (While condition limit body line) _ (execution-While meant condition limit body line)
+      at_statement (While condition limit body line) _ (fold-While (execution_of_node meant) condition limit body line)
       (while_loop condition limit (map (execution_by meant) body) line (mapped body h)))
-      (λ x arguments line. at_statement (Call x arguments line) _ (execution-Call meant x arguments line) (call x arguments line))
+      (λ x arguments line. at_statement (Call x arguments line) _ (fold-Call (execution_of_node meant) x arguments line) (call x arguments line))
 
 pub each_in_order : (meant : Expr → Evaluation) (P : Execution → Type 0)
     → ((s : Statement) → P (execution_by meant s)) → (l : List Statement) → EachOf P (map (execution_by meant) l)

@@ -9,7 +9,7 @@ use Rattle.source_tree.specs.declared.expression.Operator.TheVariants.{Add, Sub,
 use Rattle.source_tree.specs.declared.expression.Expr.{Number, Name, Element, Binary}
 use Rattle.source_tree.specs.declared.statement.Place.TheVariants.{Name as AtName, Element as AtElement}
 use Rattle.source_tree.specs.declared.statement.Statement.{Assign, Print, Read, For, Call}
-use Rattle.source_tree.proofs.Equations.{evaluation-Number, evaluation-Name, evaluation-Element, evaluation-Binary, execution-Assign, execution-Print, execution-Read, execution-For, execution-Call}
+use Rattle.source_tree.proofs.FoldEquations.{fold-Number, fold-Name, fold-Element, fold-Binary, fold-Assign, fold-Print, fold-Read, fold-For, fold-Call}
 use Rattle.source_tree.proofs.RowsBasis.{outcome, from_to, named}
 
 -- array bal[3]: 0..400000000;
@@ -56,33 +56,33 @@ ledger = record {
 
 pub ledger_means : outcome (meaning ledger (pos 100000 ∷ pos 325 ∷ [])) ≡ ((pos 103250 ∷ []), None)
 ledger_means = rw (
-  execution-Read,
-  evaluation-Number,
-  execution-Read,
-  execution-For,
-  evaluation-Number,
-  execution-Call,
-  evaluation-Name,
-  execution-Assign,
-  evaluation-Element,
-  evaluation-Binary,
-  evaluation-Name,
-  evaluation-Number,
-  execution-Assign,
-  evaluation-Binary,
-  evaluation-Name,
-  evaluation-Binary,
-  evaluation-Binary,
-  evaluation-Binary,
-  evaluation-Name,
-  evaluation-Name,
-  evaluation-Number,
-  evaluation-Number,
-  execution-Assign,
-  evaluation-Name,
-  evaluation-Name,
-  execution-Print,
-  evaluation-Name,
+  fold-Read,
+  fold-Number,
+  fold-Read,
+  fold-For,
+  fold-Number,
+  fold-Call,
+  fold-Name,
+  fold-Assign,
+  fold-Element,
+  fold-Binary,
+  fold-Name,
+  fold-Number,
+  fold-Assign,
+  fold-Binary,
+  fold-Name,
+  fold-Binary,
+  fold-Binary,
+  fold-Binary,
+  fold-Name,
+  fold-Name,
+  fold-Number,
+  fold-Number,
+  fold-Assign,
+  fold-Name,
+  fold-Name,
+  fold-Print,
+  fold-Name,
 )
 
 -- proc p(m: 0..9, n: 0..9) do print m; print n; end
@@ -99,13 +99,13 @@ two_arguments = record {
 
 pub two_arguments_mean : outcome (meaning two_arguments []) ≡ ((pos 1 ∷ pos 2 ∷ []), None)
 two_arguments_mean = rw (
-  execution-Call,
-  evaluation-Number,
-  evaluation-Number,
-  execution-Print,
-  evaluation-Name,
-  execution-Print,
-  evaluation-Name,
+  fold-Call,
+  fold-Number,
+  fold-Number,
+  fold-Print,
+  fold-Name,
+  fold-Print,
+  fold-Name,
 )
 
 -- proc p(n: 0..3) do end
@@ -119,7 +119,7 @@ argument_too_large = record {
 }
 
 pub argument_too_large_traps : outcome (meaning argument_too_large []) ≡ ([], Some (kind.Range, 2))
-argument_too_large_traps = rw (execution-Call, evaluation-Number)
+argument_too_large_traps = rw (fold-Call, fold-Number)
 
 -- proc p(m: 0..9, n: 0..3) do print m; end
 -- p(1,
@@ -135,11 +135,11 @@ second_too_large = record {
 }
 
 pub second_too_large_traps : outcome (meaning second_too_large []) ≡ ([], Some (kind.Range, 2))
-second_too_large_traps = rw (execution-Call, evaluation-Number, evaluation-Number)
+second_too_large_traps = rw (fold-Call, fold-Number, fold-Number)
 
 -- the statement and two arguments
 pub second_too_large_takes_three_visits : visits (meaning second_too_large []) ≡ 3
-second_too_large_takes_three_visits = rw (execution-Call, evaluation-Number, evaluation-Number)
+second_too_large_takes_three_visits = rw (fold-Call, fold-Number, fold-Number)
 
 -- proc p(m: 0..9, n: 0..9) do end
 -- p(10, 1 div 0);
@@ -155,11 +155,11 @@ first_too_large = record {
 }
 
 pub first_too_large_traps : outcome (meaning first_too_large []) ≡ ([], Some (kind.Range, 2))
-first_too_large_traps = rw (execution-Call, evaluation-Number)
+first_too_large_traps = rw (fold-Call, fold-Number)
 
 -- the statement and the first argument: its range is tested before the second begins
 pub first_too_large_takes_two_visits : visits (meaning first_too_large []) ≡ 2
-first_too_large_takes_two_visits = rw (execution-Call, evaluation-Number)
+first_too_large_takes_two_visits = rw (fold-Call, fold-Number)
 
 -- proc p() var x: 0..9; do end
 -- p();
@@ -172,7 +172,7 @@ one_local = record {
 }
 
 pub one_local_takes_two_visits : visits (meaning one_local []) ≡ 2
-one_local_takes_two_visits = rw execution-Call
+one_local_takes_two_visits = rw fold-Call
 
 -- proc p()
 --   var x: 3..9;
@@ -192,7 +192,7 @@ local_anew = record {
 }
 
 pub local_starts_anew : outcome (meaning local_anew []) ≡ ((pos 3 ∷ pos 7 ∷ pos 3 ∷ pos 7 ∷ []), None)
-local_starts_anew = rw (execution-Call, execution-Print, evaluation-Name, execution-Assign, evaluation-Number)
+local_starts_anew = rw (fold-Call, fold-Print, fold-Name, fold-Assign, fold-Number)
 
 -- proc p(m: 0..9, n: 0..9)
 --   var x: 0..9;
@@ -226,18 +226,18 @@ locals_apart = record {
 
 pub locals_stay_apart : outcome (meaning locals_apart []) ≡ ((pos 5 ∷ []), None)
 locals_stay_apart = rw (
-  execution-Call,
-  execution-Assign,
-  evaluation-Number,
-  execution-Call,
-  evaluation-Number,
-  evaluation-Number,
-  execution-Assign,
-  evaluation-Name,
-  execution-Assign,
-  evaluation-Name,
-  execution-Print,
-  evaluation-Name,
+  fold-Call,
+  fold-Assign,
+  fold-Number,
+  fold-Call,
+  fold-Number,
+  fold-Number,
+  fold-Assign,
+  fold-Name,
+  fold-Assign,
+  fold-Name,
+  fold-Print,
+  fold-Name,
 )
 
 -- proc p(p: 0..9) do print p; end
@@ -251,4 +251,4 @@ parameter_of_its_name = record {
 }
 
 pub parameter_of_its_name_means : outcome (meaning parameter_of_its_name []) ≡ ((pos 4 ∷ []), None)
-parameter_of_its_name_means = rw (execution-Call, evaluation-Number, execution-Print, evaluation-Name)
+parameter_of_its_name_means = rw (fold-Call, fold-Number, fold-Print, fold-Name)

@@ -10,7 +10,7 @@ use Rattle.source_tree.specs.declared.expression.Comparison.TheVariants.{Less, L
 use Rattle.source_tree.specs.declared.expression.Expr.{Number, Name, Element, Binary}
 use Rattle.source_tree.specs.declared.statement.Place.TheVariants.{Name as AtName}
 use Rattle.source_tree.specs.declared.statement.Statement.{Assign, Print, If}
-use Rattle.source_tree.proofs.Equations.{evaluation-Number, evaluation-Name, evaluation-Element, execution-Assign, execution-Print, execution-If}
+use Rattle.source_tree.proofs.FoldEquations.{fold-Number, fold-Name, fold-Element, fold-Assign, fold-Print, fold-If}
 use Rattle.source_tree.proofs.RowsBasis.{outcome, from_to, named}
 
 -- if 1 < 2 then print 1; else print 0; end
@@ -30,20 +30,20 @@ less = record {
 
 pub less_means : outcome (meaning less []) ≡ ((pos 1 ∷ pos 0 ∷ pos 0 ∷ []), None)
 less_means = rw (
-  execution-If,
-  evaluation-Number,
-  evaluation-Number,
-  execution-Print,
-  evaluation-Number,
-  execution-If,
-  evaluation-Number,
-  execution-Print,
-  evaluation-Number,
-  execution-If,
-  evaluation-Number,
-  evaluation-Number,
-  execution-Print,
-  evaluation-Number,
+  fold-If,
+  fold-Number,
+  fold-Number,
+  fold-Print,
+  fold-Number,
+  fold-If,
+  fold-Number,
+  fold-Print,
+  fold-Number,
+  fold-If,
+  fold-Number,
+  fold-Number,
+  fold-Print,
+  fold-Number,
 )
 
 -- if 1 <= 2 then print 1; else print 0; end
@@ -63,20 +63,20 @@ at_most = record {
 
 pub at_most_means : outcome (meaning at_most []) ≡ ((pos 1 ∷ pos 1 ∷ pos 0 ∷ []), None)
 at_most_means = rw (
-  execution-If,
-  evaluation-Number,
-  evaluation-Number,
-  execution-Print,
-  evaluation-Number,
-  execution-If,
-  evaluation-Number,
-  execution-Print,
-  evaluation-Number,
-  execution-If,
-  evaluation-Number,
-  evaluation-Number,
-  execution-Print,
-  evaluation-Number,
+  fold-If,
+  fold-Number,
+  fold-Number,
+  fold-Print,
+  fold-Number,
+  fold-If,
+  fold-Number,
+  fold-Print,
+  fold-Number,
+  fold-If,
+  fold-Number,
+  fold-Number,
+  fold-Print,
+  fold-Number,
 )
 
 -- if 1 > 2 then print 1; else print 0; end
@@ -96,20 +96,20 @@ greater = record {
 
 pub greater_means : outcome (meaning greater []) ≡ ((pos 0 ∷ pos 0 ∷ pos 1 ∷ []), None)
 greater_means = rw (
-  execution-If,
-  evaluation-Number,
-  evaluation-Number,
-  execution-Print,
-  evaluation-Number,
-  execution-If,
-  evaluation-Number,
-  execution-Print,
-  evaluation-Number,
-  execution-If,
-  evaluation-Number,
-  evaluation-Number,
-  execution-Print,
-  evaluation-Number,
+  fold-If,
+  fold-Number,
+  fold-Number,
+  fold-Print,
+  fold-Number,
+  fold-If,
+  fold-Number,
+  fold-Print,
+  fold-Number,
+  fold-If,
+  fold-Number,
+  fold-Number,
+  fold-Print,
+  fold-Number,
 )
 
 -- if 1 >= 2 then print 1; else print 0; end
@@ -129,20 +129,20 @@ at_least = record {
 
 pub at_least_means : outcome (meaning at_least []) ≡ ((pos 0 ∷ pos 1 ∷ pos 1 ∷ []), None)
 at_least_means = rw (
-  execution-If,
-  evaluation-Number,
-  evaluation-Number,
-  execution-Print,
-  evaluation-Number,
-  execution-If,
-  evaluation-Number,
-  execution-Print,
-  evaluation-Number,
-  execution-If,
-  evaluation-Number,
-  evaluation-Number,
-  execution-Print,
-  evaluation-Number,
+  fold-If,
+  fold-Number,
+  fold-Number,
+  fold-Print,
+  fold-Number,
+  fold-If,
+  fold-Number,
+  fold-Print,
+  fold-Number,
+  fold-If,
+  fold-Number,
+  fold-Number,
+  fold-Print,
+  fold-Number,
 )
 
 -- if 1 = 2 then print 1; else print 0; end
@@ -162,20 +162,20 @@ equal = record {
 
 pub equal_means : outcome (meaning equal []) ≡ ((pos 0 ∷ pos 1 ∷ pos 0 ∷ []), None)
 equal_means = rw (
-  execution-If,
-  evaluation-Number,
-  evaluation-Number,
-  execution-Print,
-  evaluation-Number,
-  execution-If,
-  evaluation-Number,
-  execution-Print,
-  evaluation-Number,
-  execution-If,
-  evaluation-Number,
-  evaluation-Number,
-  execution-Print,
-  evaluation-Number,
+  fold-If,
+  fold-Number,
+  fold-Number,
+  fold-Print,
+  fold-Number,
+  fold-If,
+  fold-Number,
+  fold-Print,
+  fold-Number,
+  fold-If,
+  fold-Number,
+  fold-Number,
+  fold-Print,
+  fold-Number,
 )
 
 -- if 1 <> 2 then print 1; else print 0; end
@@ -195,20 +195,20 @@ not_equal = record {
 
 pub not_equal_means : outcome (meaning not_equal []) ≡ ((pos 1 ∷ pos 0 ∷ pos 1 ∷ []), None)
 not_equal_means = rw (
-  execution-If,
-  evaluation-Number,
-  evaluation-Number,
-  execution-Print,
-  evaluation-Number,
-  execution-If,
-  evaluation-Number,
-  execution-Print,
-  evaluation-Number,
-  execution-If,
-  evaluation-Number,
-  evaluation-Number,
-  execution-Print,
-  evaluation-Number,
+  fold-If,
+  fold-Number,
+  fold-Number,
+  fold-Print,
+  fold-Number,
+  fold-If,
+  fold-Number,
+  fold-Print,
+  fold-Number,
+  fold-If,
+  fold-Number,
+  fold-Number,
+  fold-Print,
+  fold-Number,
 )
 
 -- var x: 0..97;
@@ -225,13 +225,13 @@ choosing = record {
 
 pub choosing_means : outcome (meaning choosing []) ≡ ((pos 1 ∷ []), None)
 choosing_means = rw (
-  execution-Assign,
-  evaluation-Number,
-  execution-If,
-  evaluation-Name,
-  evaluation-Number,
-  execution-Print,
-  evaluation-Number,
+  fold-Assign,
+  fold-Number,
+  fold-If,
+  fold-Name,
+  fold-Number,
+  fold-Print,
+  fold-Number,
 )
 
 -- var x: 0..97;
@@ -251,17 +251,17 @@ choosing_else = record {
 
 pub choosing_else_means : outcome (meaning choosing_else []) ≡ ((pos 52 ∷ pos 2 ∷ pos 3 ∷ []), None)
 choosing_else_means = rw (
-  execution-Assign,
-  evaluation-Number,
-  execution-If,
-  evaluation-Name,
-  evaluation-Number,
-  execution-Print,
-  evaluation-Name,
-  execution-Print,
-  evaluation-Number,
-  execution-Print,
-  evaluation-Number,
+  fold-Assign,
+  fold-Number,
+  fold-If,
+  fold-Name,
+  fold-Number,
+  fold-Print,
+  fold-Name,
+  fold-Print,
+  fold-Number,
+  fold-Print,
+  fold-Number,
 )
 
 -- if 2 < 1 then print 1; end
@@ -276,16 +276,16 @@ no_else = record {
 }
 
 pub no_else_means : outcome (meaning no_else []) ≡ ((pos 2 ∷ []), None)
-no_else_means = rw (execution-If, evaluation-Number, evaluation-Number, execution-Print, evaluation-Number)
+no_else_means = rw (fold-If, fold-Number, fold-Number, fold-Print, fold-Number)
 
 -- the statement, the condition and its two sides; and the print of two
 pub no_else_takes_six_visits : visits (meaning no_else []) ≡ 6
 no_else_takes_six_visits = rw (
-  execution-If,
-  evaluation-Number,
-  evaluation-Number,
-  execution-Print,
-  evaluation-Number,
+  fold-If,
+  fold-Number,
+  fold-Number,
+  fold-Print,
+  fold-Number,
 )
 
 -- array a[2]: 0..9;
@@ -304,4 +304,4 @@ left_side_first = record {
 }
 
 pub left_side_traps_first : outcome (meaning left_side_first []) ≡ ([], Some (kind.Index, 2))
-left_side_traps_first = rw (execution-If, evaluation-Element, evaluation-Number)
+left_side_traps_first = rw (fold-If, fold-Element, fold-Number)

@@ -9,7 +9,7 @@ use Rattle.source_tree.specs.declared.expression.Operator.TheVariants.{Add, Sub,
 use Rattle.source_tree.specs.declared.expression.Expr.{Number, Name, Element, Neg, Binary}
 use Rattle.source_tree.specs.declared.statement.Place.TheVariants.{Name as AtName}
 use Rattle.source_tree.specs.declared.statement.Statement.{Assign, Print}
-use Rattle.source_tree.proofs.Equations.{evaluation-Number, evaluation-Name, evaluation-Element, evaluation-Neg, evaluation-Binary, execution-Assign, execution-Print}
+use Rattle.source_tree.proofs.FoldEquations.{fold-Number, fold-Name, fold-Element, fold-Neg, fold-Binary, fold-Assign, fold-Print}
 use Rattle.source_tree.proofs.RowsBasis.{outcome, from_to, named}
 
 -- print 2 + 7; print 2 - 7;
@@ -26,21 +26,21 @@ arithmetic = record {
 
 pub arithmetic_means : outcome (meaning arithmetic []) ≡ ((pos 9 ∷ negsuc 4 ∷ pos 14 ∷ negsuc 6 ∷ []), None)
 arithmetic_means = rw (
-  execution-Print,
-  evaluation-Binary,
-  evaluation-Number,
-  evaluation-Number,
-  execution-Print,
-  evaluation-Binary,
-  evaluation-Number,
-  evaluation-Number,
-  execution-Print,
-  evaluation-Binary,
-  evaluation-Number,
-  evaluation-Number,
-  execution-Print,
-  evaluation-Neg,
-  evaluation-Number,
+  fold-Print,
+  fold-Binary,
+  fold-Number,
+  fold-Number,
+  fold-Print,
+  fold-Binary,
+  fold-Number,
+  fold-Number,
+  fold-Print,
+  fold-Binary,
+  fold-Number,
+  fold-Number,
+  fold-Print,
+  fold-Neg,
+  fold-Number,
 )
 
 -- print 97 div -5; print 97 mod -5; print -97 div 5; print -97 mod 5;
@@ -59,38 +59,38 @@ division = record {
 
 pub division_means : outcome (meaning division []) ≡ ((negsuc 19 ∷ negsuc 2 ∷ negsuc 19 ∷ pos 3 ∷ pos 19 ∷ negsuc 1 ∷ []), None)
 division_means = rw (
-  execution-Print,
-  evaluation-Binary,
-  evaluation-Number,
-  evaluation-Neg,
-  evaluation-Number,
-  execution-Print,
-  evaluation-Binary,
-  evaluation-Number,
-  evaluation-Neg,
-  evaluation-Number,
-  execution-Print,
-  evaluation-Binary,
-  evaluation-Neg,
-  evaluation-Number,
-  evaluation-Number,
-  execution-Print,
-  evaluation-Binary,
-  evaluation-Neg,
-  evaluation-Number,
-  evaluation-Number,
-  execution-Print,
-  evaluation-Binary,
-  evaluation-Neg,
-  evaluation-Number,
-  evaluation-Neg,
-  evaluation-Number,
-  execution-Print,
-  evaluation-Binary,
-  evaluation-Neg,
-  evaluation-Number,
-  evaluation-Neg,
-  evaluation-Number,
+  fold-Print,
+  fold-Binary,
+  fold-Number,
+  fold-Neg,
+  fold-Number,
+  fold-Print,
+  fold-Binary,
+  fold-Number,
+  fold-Neg,
+  fold-Number,
+  fold-Print,
+  fold-Binary,
+  fold-Neg,
+  fold-Number,
+  fold-Number,
+  fold-Print,
+  fold-Binary,
+  fold-Neg,
+  fold-Number,
+  fold-Number,
+  fold-Print,
+  fold-Binary,
+  fold-Neg,
+  fold-Number,
+  fold-Neg,
+  fold-Number,
+  fold-Print,
+  fold-Binary,
+  fold-Neg,
+  fold-Number,
+  fold-Neg,
+  fold-Number,
 )
 
 -- var x: 3..9;
@@ -114,15 +114,15 @@ starts = record {
 
 pub starts_are_nearest_to_zero : outcome (meaning starts []) ≡ ((pos 3 ∷ negsuc 2 ∷ pos 0 ∷ pos 3 ∷ []), None)
 starts_are_nearest_to_zero = rw (
-  execution-Print,
-  evaluation-Name,
-  execution-Print,
-  evaluation-Name,
-  execution-Print,
-  evaluation-Name,
-  execution-Print,
-  evaluation-Element,
-  evaluation-Number,
+  fold-Print,
+  fold-Name,
+  fold-Print,
+  fold-Name,
+  fold-Print,
+  fold-Name,
+  fold-Print,
+  fold-Element,
+  fold-Number,
 )
 
 -- var x: 0..9;
@@ -144,16 +144,16 @@ by_zero = record {
 
 pub by_zero_traps : outcome (meaning by_zero []) ≡ ((pos 7 ∷ pos 0 ∷ []), Some (kind.Zero, 5))
 by_zero_traps = rw (
-  execution-Assign,
-  evaluation-Number,
-  execution-Print,
-  evaluation-Name,
-  execution-Print,
-  evaluation-Name,
-  execution-Print,
-  evaluation-Binary,
-  evaluation-Name,
-  evaluation-Name,
+  fold-Assign,
+  fold-Number,
+  fold-Print,
+  fold-Name,
+  fold-Print,
+  fold-Name,
+  fold-Print,
+  fold-Binary,
+  fold-Name,
+  fold-Name,
 )
 
 -- print 1 mod
@@ -165,7 +165,7 @@ remainder_by_zero = record {
 }
 
 pub remainder_by_zero_traps : outcome (meaning remainder_by_zero []) ≡ ([], Some (kind.Zero, 1))
-remainder_by_zero_traps = rw (execution-Print, evaluation-Binary, evaluation-Number, evaluation-Number)
+remainder_by_zero_traps = rw (fold-Print, fold-Binary, fold-Number, fold-Number)
 
 -- array a[2]: 0..9;
 -- print
@@ -177,7 +177,7 @@ no_such_element = record {
 }
 
 pub no_such_element_traps : outcome (meaning no_such_element []) ≡ ([], Some (kind.Index, 3))
-no_such_element_traps = rw (execution-Print, evaluation-Element, evaluation-Number)
+no_such_element_traps = rw (fold-Print, fold-Element, fold-Number)
 
 -- array a[2]: 0..9;
 -- print a[-1];
@@ -188,7 +188,7 @@ element_below_zero = record {
 }
 
 pub element_below_zero_traps : outcome (meaning element_below_zero []) ≡ ([], Some (kind.Index, 2))
-element_below_zero_traps = rw (execution-Print, evaluation-Element, evaluation-Neg, evaluation-Number)
+element_below_zero_traps = rw (fold-Print, fold-Element, fold-Neg, fold-Number)
 
 -- array a[2]: 0..9;
 -- print a[2] + 1 div 0;
@@ -202,24 +202,24 @@ left_first = record {
 }
 
 pub left_traps_first : outcome (meaning left_first []) ≡ ([], Some (kind.Index, 2))
-left_traps_first = rw (execution-Print, evaluation-Binary, evaluation-Element, evaluation-Number)
+left_traps_first = rw (fold-Print, fold-Binary, fold-Element, fold-Number)
 
 -- the statement, `+`, the element and its index
 pub left_takes_four_visits : visits (meaning left_first []) ≡ 4
-left_takes_four_visits = rw (execution-Print, evaluation-Binary, evaluation-Element, evaluation-Number)
+left_takes_four_visits = rw (fold-Print, fold-Binary, fold-Element, fold-Number)
 
 -- print 1;
 abbrev one : Program
 one = record { declarations = []; statements = Print (Number (pos 1) 1) 1 ∷ [] }
 
 pub one_takes_two_visits : visits (meaning one []) ≡ 2
-one_takes_two_visits = rw (execution-Print, evaluation-Number)
+one_takes_two_visits = rw (fold-Print, fold-Number)
 
 pub one_within_one_visit : printed_within 1 (meaning one []) ≡ []
-one_within_one_visit = rw (execution-Print, evaluation-Number)
+one_within_one_visit = rw (fold-Print, fold-Number)
 
 pub one_within_two_visits : printed_within 2 (meaning one []) ≡ pos 1 ∷ []
-one_within_two_visits = rw (execution-Print, evaluation-Number)
+one_within_two_visits = rw (fold-Print, fold-Number)
 
 -- print (1 div 0) + 2;
 abbrev trapped_early : Program
@@ -231,11 +231,11 @@ trapped_early = record {
 
 pub trapped_early_takes_five_visits : visits (meaning trapped_early []) ≡ 5
 trapped_early_takes_five_visits = rw (
-  execution-Print,
-  evaluation-Binary,
-  evaluation-Binary,
-  evaluation-Number,
-  evaluation-Number,
+  fold-Print,
+  fold-Binary,
+  fold-Binary,
+  fold-Number,
+  fold-Number,
 )
 
 -- array a[2]: 0..9;
@@ -248,4 +248,4 @@ one_element = record {
 
 -- the statement, `-`, the element and its index
 pub one_element_takes_four_visits : visits (meaning one_element []) ≡ 4
-one_element_takes_four_visits = rw (execution-Print, evaluation-Neg, evaluation-Element, evaluation-Number)
+one_element_takes_four_visits = rw (fold-Print, fold-Neg, fold-Element, fold-Number)

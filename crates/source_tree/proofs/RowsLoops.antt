@@ -10,7 +10,7 @@ use Rattle.source_tree.specs.declared.expression.Comparison.TheVariants.{Less}
 use Rattle.source_tree.specs.declared.expression.Expr.{Number, Name, Element, Binary}
 use Rattle.source_tree.specs.declared.statement.Place.TheVariants.{Name as AtName}
 use Rattle.source_tree.specs.declared.statement.Statement.{Assign, Print, For, While, Call}
-use Rattle.source_tree.proofs.Equations.{evaluation-Number, evaluation-Name, evaluation-Element, evaluation-Binary, execution-Assign, execution-Print, execution-For, execution-While, execution-Call}
+use Rattle.source_tree.proofs.FoldEquations.{fold-Number, fold-Name, fold-Element, fold-Binary, fold-Assign, fold-Print, fold-For, fold-While, fold-Call}
 use Rattle.source_tree.proofs.RowsBasis.{outcome, from_to, named}
 
 -- var i: 0..97;
@@ -25,7 +25,7 @@ counting = record {
 }
 
 pub counting_means : outcome (meaning counting []) ≡ ((pos 3 ∷ []), None)
-counting_means = rw (execution-For, evaluation-Number, evaluation-Number, execution-Print, evaluation-Name)
+counting_means = rw (fold-For, fold-Number, fold-Number, fold-Print, fold-Name)
 
 -- var i: 0..9; for i := 5 to 4 do print i; end
 abbrev no_turns : Program
@@ -37,7 +37,7 @@ no_turns = record {
 }
 
 pub no_turns_means : outcome (meaning no_turns []) ≡ ([], None)
-no_turns_means = rw (execution-For, evaluation-Number, evaluation-Number)
+no_turns_means = rw (fold-For, fold-Number, fold-Number)
 
 -- var i: 0..9;
 -- for i := 1 to 2 do end
@@ -48,7 +48,7 @@ two_turns = record {
 }
 
 pub two_turns_take_five_visits : visits (meaning two_turns []) ≡ 5
-two_turns_take_five_visits = rw (execution-For, evaluation-Number, evaluation-Number)
+two_turns_take_five_visits = rw (fold-For, fold-Number, fold-Number)
 
 -- var i: 0..9;
 -- for i := 8 to
@@ -62,16 +62,16 @@ out_of_range = record {
 }
 
 pub out_of_range_traps : outcome (meaning out_of_range []) ≡ ((pos 8 ∷ pos 9 ∷ []), Some (kind.Range, 2))
-out_of_range_traps = rw (execution-For, evaluation-Number, evaluation-Number, execution-Print, evaluation-Name)
+out_of_range_traps = rw (fold-For, fold-Number, fold-Number, fold-Print, fold-Name)
 
 -- the statement and its bounds, two turns of three, and the turn that traps
 pub out_of_range_takes_ten_visits : visits (meaning out_of_range []) ≡ 10
 out_of_range_takes_ten_visits = rw (
-  execution-For,
-  evaluation-Number,
-  evaluation-Number,
-  execution-Print,
-  evaluation-Name,
+  fold-For,
+  fold-Number,
+  fold-Number,
+  fold-Print,
+  fold-Name,
 )
 
 -- var i: 0..9;
@@ -92,15 +92,15 @@ bounds = record {
 
 pub bounds_are_taken_once : outcome (meaning bounds []) ≡ ((pos 1 ∷ pos 2 ∷ pos 3 ∷ []), None)
 bounds_are_taken_once = rw (
-  execution-Assign,
-  evaluation-Number,
-  execution-For,
-  evaluation-Number,
-  evaluation-Name,
-  execution-Assign,
-  evaluation-Number,
-  execution-Print,
-  evaluation-Name,
+  fold-Assign,
+  fold-Number,
+  fold-For,
+  fold-Number,
+  fold-Name,
+  fold-Assign,
+  fold-Number,
+  fold-Print,
+  fold-Name,
 )
 
 -- array a[2]: 0..9;
@@ -117,7 +117,7 @@ first_bound = record {
 }
 
 pub first_bound_traps_first : outcome (meaning first_bound []) ≡ ([], Some (kind.Index, 3))
-first_bound_traps_first = rw (execution-For, evaluation-Element, evaluation-Number)
+first_bound_traps_first = rw (fold-For, fold-Element, fold-Number)
 
 -- var i: 0..9;
 -- proc p() do i := 7; end
@@ -136,14 +136,14 @@ called_in_a_loop = record {
 
 pub called_in_a_loop_means : outcome (meaning called_in_a_loop []) ≡ ((pos 1 ∷ pos 7 ∷ pos 2 ∷ pos 7 ∷ []), None)
 called_in_a_loop_means = rw (
-  execution-For,
-  evaluation-Number,
-  evaluation-Number,
-  execution-Print,
-  evaluation-Name,
-  execution-Call,
-  execution-Assign,
-  evaluation-Number,
+  fold-For,
+  fold-Number,
+  fold-Number,
+  fold-Print,
+  fold-Name,
+  fold-Call,
+  fold-Assign,
+  fold-Number,
 )
 
 -- var x: 0..20;
@@ -163,29 +163,29 @@ three_turns = record {
 
 pub three_turns_are_enough : outcome (meaning three_turns []) ≡ ((pos 3 ∷ []), None)
 three_turns_are_enough = rw (
-  execution-While,
-  evaluation-Name,
-  evaluation-Number,
-  execution-Assign,
-  evaluation-Binary,
-  evaluation-Name,
-  evaluation-Number,
-  execution-Print,
-  evaluation-Name,
+  fold-While,
+  fold-Name,
+  fold-Number,
+  fold-Assign,
+  fold-Binary,
+  fold-Name,
+  fold-Number,
+  fold-Print,
+  fold-Name,
 )
 
 -- the statement, four conditions of three visits each, three turns of five, and the print of two
 pub three_turns_take_thirty_visits : visits (meaning three_turns []) ≡ 30
 three_turns_take_thirty_visits = rw (
-  execution-While,
-  evaluation-Name,
-  evaluation-Number,
-  execution-Assign,
-  evaluation-Binary,
-  evaluation-Name,
-  evaluation-Number,
-  execution-Print,
-  evaluation-Name,
+  fold-While,
+  fold-Name,
+  fold-Number,
+  fold-Assign,
+  fold-Binary,
+  fold-Name,
+  fold-Number,
+  fold-Print,
+  fold-Name,
 )
 
 -- var x: 0..20;
@@ -206,29 +206,29 @@ turns_left = record {
 -- its condition ends it, with seventeen turns left
 pub turns_left_means : outcome (meaning turns_left []) ≡ ((pos 3 ∷ []), None)
 turns_left_means = rw (
-  execution-While,
-  evaluation-Name,
-  evaluation-Number,
-  execution-Assign,
-  evaluation-Binary,
-  evaluation-Name,
-  evaluation-Number,
-  execution-Print,
-  evaluation-Name,
+  fold-While,
+  fold-Name,
+  fold-Number,
+  fold-Assign,
+  fold-Binary,
+  fold-Name,
+  fold-Number,
+  fold-Print,
+  fold-Name,
 )
 
 -- the statement, four conditions of three visits each, three turns of five, and the print of two
 pub turns_left_takes_thirty_visits : visits (meaning turns_left []) ≡ 30
 turns_left_takes_thirty_visits = rw (
-  execution-While,
-  evaluation-Name,
-  evaluation-Number,
-  execution-Assign,
-  evaluation-Binary,
-  evaluation-Name,
-  evaluation-Number,
-  execution-Print,
-  evaluation-Name,
+  fold-While,
+  fold-Name,
+  fold-Number,
+  fold-Assign,
+  fold-Binary,
+  fold-Name,
+  fold-Number,
+  fold-Print,
+  fold-Name,
 )
 
 -- var x: 0..20;
@@ -246,25 +246,25 @@ too_many_turns = record {
 
 pub too_many_turns_trap : outcome (meaning too_many_turns []) ≡ ([], Some (kind.Turns, 2))
 too_many_turns_trap = rw (
-  execution-While,
-  evaluation-Name,
-  evaluation-Number,
-  execution-Assign,
-  evaluation-Binary,
-  evaluation-Name,
-  evaluation-Number,
+  fold-While,
+  fold-Name,
+  fold-Number,
+  fold-Assign,
+  fold-Binary,
+  fold-Name,
+  fold-Number,
 )
 
 -- the statement, four conditions of three visits each, and three turns of five
 pub three_turns_are_taken : visits (meaning too_many_turns []) ≡ 28
 three_turns_are_taken = rw (
-  execution-While,
-  evaluation-Name,
-  evaluation-Number,
-  execution-Assign,
-  evaluation-Binary,
-  evaluation-Name,
-  evaluation-Number,
+  fold-While,
+  fold-Name,
+  fold-Number,
+  fold-Assign,
+  fold-Binary,
+  fold-Name,
+  fold-Number,
 )
 
 -- while
@@ -278,8 +278,8 @@ turn_refused = record {
 }
 
 pub turn_refused_traps : outcome (meaning turn_refused []) ≡ ([], Some (kind.Turns, 1))
-turn_refused_traps = rw (execution-While, evaluation-Number, evaluation-Number)
+turn_refused_traps = rw (fold-While, fold-Number, fold-Number)
 
 -- the statement and the condition of three, and none for the turn
 pub turn_refused_takes_four_visits : visits (meaning turn_refused []) ≡ 4
-turn_refused_takes_four_visits = rw (execution-While, evaluation-Number, evaluation-Number)
+turn_refused_takes_four_visits = rw (fold-While, fold-Number, fold-Number)

@@ -9,7 +9,7 @@ use Rattle.source_tree.specs.declared.expression.Operator.TheVariants.{Add, Div}
 use Rattle.source_tree.specs.declared.expression.Expr.{Number, Name, Element, Binary}
 use Rattle.source_tree.specs.declared.statement.Place.TheVariants.{Name as AtName, Element as AtElement}
 use Rattle.source_tree.specs.declared.statement.Statement.{Assign, Print, Read}
-use Rattle.source_tree.proofs.Equations.{evaluation-Number, evaluation-Name, evaluation-Element, evaluation-Binary, execution-Assign, execution-Print, execution-Read}
+use Rattle.source_tree.proofs.FoldEquations.{fold-Number, fold-Name, fold-Element, fold-Binary, fold-Assign, fold-Print, fold-Read}
 use Rattle.source_tree.proofs.RowsBasis.{outcome, from_to, named}
 
 -- var x: 0..9;
@@ -22,17 +22,17 @@ reading = record {
 }
 
 pub reading_without_input : outcome (meaning reading []) ≡ ([], Some (kind.InputEnd, 2))
-reading_without_input = rw execution-Read
+reading_without_input = rw fold-Read
 
 pub reading_too_large : outcome (meaning reading (pos 10 ∷ [])) ≡ ([], Some (kind.InputRange, 2))
-reading_too_large = rw execution-Read
+reading_too_large = rw fold-Read
 
 pub reading_seven : outcome (meaning reading (pos 7 ∷ [])) ≡ ((pos 7 ∷ []), None)
-reading_seven = rw (execution-Read, execution-Print, evaluation-Name)
+reading_seven = rw (fold-Read, fold-Print, fold-Name)
 
 -- the statement, and the print of two
 pub reading_takes_three_visits : visits (meaning reading (pos 7 ∷ [])) ≡ 3
-reading_takes_three_visits = rw (execution-Read, execution-Print, evaluation-Name)
+reading_takes_three_visits = rw (fold-Read, fold-Print, fold-Name)
 
 -- var x: 0..9;
 -- var y: 0..9;
@@ -54,13 +54,13 @@ reading_twice = record {
 
 pub reading_takes_one_after_another : outcome (meaning reading_twice (pos 3 ∷ pos 5 ∷ [])) ≡ ((pos 3 ∷ pos 5 ∷ []), Some (kind.InputEnd, 5))
 reading_takes_one_after_another = rw (
-  execution-Read,
-  execution-Read,
-  execution-Print,
-  evaluation-Name,
-  execution-Print,
-  evaluation-Name,
-  execution-Read,
+  fold-Read,
+  fold-Read,
+  fold-Print,
+  fold-Name,
+  fold-Print,
+  fold-Name,
+  fold-Read,
 )
 
 -- var x: 0..9;
@@ -78,17 +78,17 @@ adding_five = record {
 
 pub three_and_five : outcome (meaning adding_five (pos 3 ∷ [])) ≡ ((pos 8 ∷ []), None)
 three_and_five = rw (
-  execution-Read,
-  execution-Assign,
-  evaluation-Binary,
-  evaluation-Name,
-  evaluation-Number,
-  execution-Print,
-  evaluation-Name,
+  fold-Read,
+  fold-Assign,
+  fold-Binary,
+  fold-Name,
+  fold-Number,
+  fold-Print,
+  fold-Name,
 )
 
 pub seven_and_five : outcome (meaning adding_five (pos 7 ∷ [])) ≡ ([], Some (kind.Range, 3))
-seven_and_five = rw (execution-Read, execution-Assign, evaluation-Binary, evaluation-Name, evaluation-Number)
+seven_and_five = rw (fold-Read, fold-Assign, fold-Binary, fold-Name, fold-Number)
 
 -- var x: 3..9;
 -- x :=
@@ -100,7 +100,7 @@ below_its_range = record {
 }
 
 pub below_its_range_traps : outcome (meaning below_its_range []) ≡ ([], Some (kind.Range, 2))
-below_its_range_traps = rw (execution-Assign, evaluation-Number)
+below_its_range_traps = rw (fold-Assign, fold-Number)
 
 -- array a[2]: 0..9;
 -- a[1] := 7;
@@ -116,15 +116,15 @@ one_of_two = record {
 
 pub one_of_two_is_set : outcome (meaning one_of_two []) ≡ ((pos 0 ∷ pos 7 ∷ []), None)
 one_of_two_is_set = rw (
-  execution-Assign,
-  evaluation-Number,
-  evaluation-Number,
-  execution-Print,
-  evaluation-Element,
-  evaluation-Number,
-  execution-Print,
-  evaluation-Element,
-  evaluation-Number,
+  fold-Assign,
+  fold-Number,
+  fold-Number,
+  fold-Print,
+  fold-Element,
+  fold-Number,
+  fold-Print,
+  fold-Element,
+  fold-Number,
 )
 
 -- array a[2]: 0..9;
@@ -144,15 +144,15 @@ two_arrays = record {
 
 pub two_arrays_stay_apart : outcome (meaning two_arrays []) ≡ ((pos 0 ∷ pos 7 ∷ []), None)
 two_arrays_stay_apart = rw (
-  execution-Assign,
-  evaluation-Number,
-  evaluation-Number,
-  execution-Print,
-  evaluation-Element,
-  evaluation-Number,
-  execution-Print,
-  evaluation-Element,
-  evaluation-Number,
+  fold-Assign,
+  fold-Number,
+  fold-Number,
+  fold-Print,
+  fold-Element,
+  fold-Number,
+  fold-Print,
+  fold-Element,
+  fold-Number,
 )
 
 -- array a[2]: 0..9;
@@ -164,7 +164,7 @@ no_element = record {
 }
 
 pub no_element_traps : outcome (meaning no_element []) ≡ ([], Some (kind.Index, 2))
-no_element_traps = rw (execution-Assign, evaluation-Number, evaluation-Number)
+no_element_traps = rw (fold-Assign, fold-Number, fold-Number)
 
 -- array a[2]: 0..9;
 -- a[5] := 1 div 0;
@@ -177,7 +177,7 @@ value_before_index = record {
 }
 
 pub value_comes_first : outcome (meaning value_before_index []) ≡ ([], Some (kind.Zero, 2))
-value_comes_first = rw (execution-Assign, evaluation-Binary, evaluation-Number, evaluation-Number)
+value_comes_first = rw (fold-Assign, fold-Binary, fold-Number, fold-Number)
 
 -- array a[2]: 0..9;
 -- a[1 div 0] := 10;
@@ -190,11 +190,11 @@ range_before_index = record {
 }
 
 pub range_comes_before_index : outcome (meaning range_before_index []) ≡ ([], Some (kind.Range, 2))
-range_comes_before_index = rw (execution-Assign, evaluation-Number)
+range_comes_before_index = rw (fold-Assign, fold-Number)
 
 -- the statement and the value
 pub range_takes_two_visits : visits (meaning range_before_index []) ≡ 2
-range_takes_two_visits = rw (execution-Assign, evaluation-Number)
+range_takes_two_visits = rw (fold-Assign, fold-Number)
 
 -- array a[2]: 0..9;
 -- read
@@ -207,7 +207,7 @@ read_before_index = record {
 }
 
 pub input_range_comes_before_index : outcome (meaning read_before_index (pos 10 ∷ [])) ≡ ([], Some (kind.InputRange, 2))
-input_range_comes_before_index = rw execution-Read
+input_range_comes_before_index = rw fold-Read
 
 -- array a[2]: 0..9;
 -- read
@@ -219,7 +219,7 @@ reading_no_element = record {
 }
 
 pub reading_no_element_traps : outcome (meaning reading_no_element (pos 1 ∷ [])) ≡ ([], Some (kind.Index, 3))
-reading_no_element_traps = rw (execution-Read, evaluation-Number)
+reading_no_element_traps = rw (fold-Read, fold-Number)
 
 -- array a[2]: 0..9;
 -- read a[1];
@@ -234,9 +234,9 @@ reading_an_element = record {
 
 pub reading_an_element_means : outcome (meaning reading_an_element (pos 4 ∷ [])) ≡ ((pos 4 ∷ []), None)
 reading_an_element_means = rw (
-  execution-Read,
-  evaluation-Number,
-  execution-Print,
-  evaluation-Element,
-  evaluation-Number,
+  fold-Read,
+  fold-Number,
+  fold-Print,
+  fold-Element,
+  fold-Number,
 )

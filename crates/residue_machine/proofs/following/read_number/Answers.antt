@@ -1,4 +1,4 @@
-use Rattle.std.proofs.Common.{rules, ◌≡◌, ℤ, List, drop, true, false, sym, subst, None}
+use Rattle.std.proofs.Common.{rules, ℤ, List, drop, true, false, sym, subst, None}
 use Rattle.std.specs.Int.{w128}
 use Rattle.std.specs.Int.RustNames.{FitsSigned}
 use Rattle.std.proofs.lemmas.Int.{to_z-of_z}
@@ -6,13 +6,12 @@ use Rattle.moduli_sets.specs.Set.{radius}
 use Rattle.moduli_sets.specs.declared.kind.Kind.TheVariants.{InputEnd, InputRange}
 use Rattle.channel_alu.specs.declared.operation.Place.TheVariants.{Reg}
 use Rattle.channel_alu.specs.declared.operation.MicroOp.TheVariants.{Put}
-use Rattle.machine_table.specs.Control.{Control, lies_in, traps, with_input}
-use Rattle.micro_plan.specs.ActTree.{end_by}
+use Rattle.machine_table.specs.Control.{Control, with_input}
 use Rattle.micro_plan.specs.Acts.{issues, read_acts}
 use Rattle.residue_machine.specs.declared.ending.Ended.TheVariants as ended
 use Rattle.residue_machine.specs.declared.outcome.Outcome.TheVariants.{End}
 use Rattle.residue_machine.specs.Outcomes.{ComesTo}
-use Rattle.residue_machine.proofs.ActLemmas.{comes-else, comes-if, comes-trap}
+use Rattle.residue_machine.proofs.ActLemmas.{comes-read, comes-trap, lies_in-said}
 use Rattle.residue_machine.proofs.following.read_number.Goals as goal
 
 pub returns-in-None-clause-comes : goal.returns-in-None-clause-comes
@@ -27,31 +26,19 @@ returns-then-lies_in-clause-comes g c =
     let old = c.args.position.now in
     let b = c.args.channels.now in
     let x = c.in-Some.x in
-    let passed : Control = with_input (drop 1 old.input) old in
-    let low = c.args.low in
-    let high = c.args.high in
     let fits : FitsSigned w128 x = search rules in
-    let ex = to_z-of_z w128 x fits in
-    let fits_low : FitsSigned w128 low = search rules in
-    let fits_high : FitsSigned w128 high = search rules in
-    let within : lies_in low high x ≡ true = cc (c.lies_in.ensures, c.if-lies_in.true, ex, to_z-of_z w128 low fits_low, to_z-of_z w128 high fits_high) in
-    let comes = subst (λ (z : ℤ). ComesTo g.R.Rack radius None (issues (Put (Reg c.args.a) z) passed) passed b c.compute.result c.compute.new.self) ex (c.compute.ensures.comes passed) in
-    subst (λ (p : Control). ComesTo g.R.Rack radius None (read_acts c.args.a low high c.args.line old.input old) p b c.compute.result c.compute.new.self) (sym c.pass_input.ensures)
-    (subst (λ (xs : List ℤ). ComesTo g.R.Rack radius None (read_acts c.args.a low high c.args.line xs old) passed b c.compute.result c.compute.new.self) (sym c.in-Some.ensures)
-    (comes-if g.R.Rack radius None (lies_in low high x) (issues (Put (Reg c.args.a) x) passed) (end_by (traps InputRange c.args.line)) passed b c.compute.new.self c.compute.result within comes))
+    let passed : Control = with_input (drop 1 old.input) old in
+    let within = lies_in-said c.args.low c.args.high x c.lies_in.result true (search rules) (search rules) fits c.lies_in.ensures c.if-lies_in.true in
+    let comes = subst (λ (z : ℤ). ComesTo g.R.Rack radius None (issues (Put (Reg c.args.a) z) passed) passed b c.compute.result c.compute.new.self) (to_z-of_z w128 x fits) (c.compute.ensures.comes passed) in
+    subst (λ (p : Control). ComesTo g.R.Rack radius None (read_acts c.args.a c.args.low c.args.high c.args.line old.input old) p b c.compute.result c.compute.new.self) (sym c.pass_input.ensures)
+    (comes-read g.R.Rack radius None c.args.a c.args.low c.args.high x c.args.line (drop 1 old.input) old.input true old passed b c.compute.new.self c.compute.result c.in-Some.ensures within comes)
 
 pub returns-else-lies_in-clause-comes : goal.returns-else-lies_in-clause-comes
 returns-else-lies_in-clause-comes g c =
     let old = c.args.position.now in
     let b = c.args.channels.now in
     let x = c.in-Some.x in
-    let passed : Control = with_input (drop 1 old.input) old in
-    let low = c.args.low in
-    let high = c.args.high in
     let fits : FitsSigned w128 x = search rules in
-    let ex = to_z-of_z w128 x fits in
-    let fits_low : FitsSigned w128 low = search rules in
-    let fits_high : FitsSigned w128 high = search rules in
-    let outside : lies_in low high x ≡ false = cc (c.lies_in.ensures, c.if-lies_in.false, ex, to_z-of_z w128 low fits_low, to_z-of_z w128 high fits_high) in
-    subst (λ (xs : List ℤ). ComesTo g.R.Rack radius None (read_acts c.args.a low high c.args.line xs old) old b (End (ended.Trap InputRange c.args.line)) b) (sym c.in-Some.ensures)
-    (comes-else g.R.Rack radius None (lies_in low high x) (issues (Put (Reg c.args.a) x) passed) (end_by (traps InputRange c.args.line)) old b b (End (ended.Trap InputRange c.args.line)) outside (comes-trap g.R.Rack radius None InputRange c.args.line old b))
+    let outside = lies_in-said c.args.low c.args.high x c.lies_in.result false (search rules) (search rules) fits c.lies_in.ensures c.if-lies_in.false in
+    comes-read g.R.Rack radius None c.args.a c.args.low c.args.high x c.args.line (drop 1 old.input) old.input false old old b b (End (ended.Trap InputRange c.args.line)) c.in-Some.ensures outside
+    (comes-trap g.R.Rack radius None InputRange c.args.line old b)

@@ -1,4 +1,4 @@
-use Rattle.std.proofs.Common.{◌≡◌, ℕ, suc, List, [], ◌∷◌, length, Result, Ok, Err, refl, sym, ap, subst, ◌∙◌, not, arith, rules}
+use Rattle.std.proofs.Common.{◌≡◌, ℕ, List, [], ◌∷◌, length, Result, Ok, Err, refl, sym, ap, subst, ◌∙◌, not, arith, rules}
 use Rattle.std.specs.Prelude.{ℤ, IfOk}
 use Rattle.std.specs.Int.{w128}
 use Rattle.std.specs.Int.RustNames.{FitsSigned}
@@ -6,19 +6,18 @@ use Rattle.std.proofs.lemmas.Int.{to_z-of_z}
 use Rattle.source_lexer.specs.declared.token.TokenKind.{TokenKind}
 use Rattle.source_lexer.specs.declared.token.TokenKind.TheVariants as kind
 use Rattle.source_tree.specs.declared.name.Name.{Name}
-use Rattle.source_tree.specs.declared.expression.Operator.{Operator}
 use Rattle.source_tree.specs.declared.expression.Expr.{Expr, Number, Element, Neg}
 use Rattle.source_parser.specs.declared.fault.Fault.{Fault}
 use Rattle.source_parser.specs.Limits.{weight_limit}
 use Rattle.source_parser.specs.Terminals.{Terminal, identifier, literal, fixed, kinds_of}
-use Rattle.source_parser.specs.Grammar.{Level, factor, sum, Joins, ReadsExpr, number, name, element, negated, bracketed, one_factor, multiplied, one_term, added, weight}
+use Rattle.source_parser.specs.Grammar.{factor, sum, ReadsExpr, number, name, element, negated, bracketed}
 use Rattle.source_parser.specs.Landings.{Comes, reads}
 use Rattle.source_parser.specs.Taking.{NotKind}
 use Rattle.source_parser.specs.Wants as wants
 use Rattle.source_parser.specs.Wants.{stopped}
-use Rattle.source_parser.proofs.Forward.{weight_joins}
+use Rattle.source_parser.proofs.Chains.{part_and_tail, one_part, one_more, heavier, begins, ends, goes, deep}
 use Rattle.source_parser.proofs.Moves.{at_start, and_then, ends_with, fails}
-use Rattle.source_parser.proofs.Runs.{sum_begins, term_begins, sum_goes, term_goes, sum_deep, term_deep, sum_ends, term_ends, index_ends}
+use Rattle.source_parser.proofs.Runs.{index_ends}
 use Rattle.source_parser.proofs.Runs as runs
 use Rattle.source_parser.proofs.Taken.{weighted_taken, weighted_missed}
 use Rattle.source_parser.proofs.TokenMoves.{and_weighted, and_inside, and_inner, and_not, instead, still, unmoved, no_inner, no_name_of, no_memory_for, too_many}
@@ -186,38 +185,35 @@ variable-returns-clause-lands t c = λ d.
     (and_then _ (c.in_ok-index.ensures.lands d) (and_weighted (wants.sum ∷ wants.inner kind.RightBracket ∷ []) bracket.1 bracket.2 (λ s ks. refl) at_start)))
 
 -- ---- sums and terms
-heavier : {level : Level} {now behind : List Terminal} {sign : TokenKind} {line : ℕ} {op : Operator} → Joins level sign op → now ≡ fixed sign line ∷ behind → weight now ≡ suc (weight behind)
-heavier {behind = behind} {line = line} joins same = ap weight same ∙ weight_joins joins line behind
-
-pub sum-returns-in_err-left-clause-lands : goal.sum-returns-in_err-left-clause-lands
-sum-returns-in_err-left-clause-lands t c = λ d.
+pub parts-returns-in_err-left-clause-lands : goal.parts-returns-in_err-left-clause-lands
+parts-returns-in_err-left-clause-lands t c = λ d.
     fails _ (c.in_err-left.ensures.lands d) c.from_residual.ensures.1
-    (instead (wants.term ∷ wants.sum_tail ∷ []) (λ s. sum_begins weight_limit s d c.args.weight_left.now (kinds_of c.args.reader.now)) at_start)
+    (instead (part_and_tail c.args.chain) (λ s. begins weight_limit s d c.args.weight_left.now c.args.chain (kinds_of c.args.reader.now)) at_start)
 
-pub sum-loop-left-init : goal.sum-loop-left-init
-sum-loop-left-init t c = record {
-  reads = one_term c.in_ok-left.ensures.value;
-  leads = λ d. and_then _ (c.in_ok-left.ensures.lands d) (instead (wants.term ∷ wants.sum_tail ∷ []) (λ s. sum_begins weight_limit s d c.args.weight_left.now (kinds_of c.args.reader.now)) at_start);
+pub parts-loop-left-init : goal.parts-loop-left-init
+parts-loop-left-init t c = record {
+  reads = one_part c.args.chain c.in_ok-left.ensures.value;
+  leads = λ d. and_then _ (c.in_ok-left.ensures.lands d) (instead (part_and_tail c.args.chain) (λ s. begins weight_limit s d c.args.weight_left.now c.args.chain (kinds_of c.args.reader.now)) at_start);
   weight_paid = c.in_ok-left.ensures.weight_paid;
   shorter = c.in_ok-left.ensures.shorter;
 }
 
-pub sum-returns-in_err-operator-clause-lands : goal.sum-returns-in_err-operator-clause-lands
-sum-returns-in_err-operator-clause-lands t c = λ d.
+pub parts-returns-in_err-operator-clause-lands : goal.parts-returns-in_err-operator-clause-lands
+parts-returns-in_err-operator-clause-lands t c = λ d.
     let many = c.in_err-operator.ensures.value in
-    too_many (many.0, many.1, many.5) (λ s ks. sum_deep weight_limit s d 0 many.4 ks) c.from_residual-in_err-operator.ensures.1 (c.loop-left.invariant.leads d)
+    too_many (many.0, many.1, many.5) (λ s ks. deep weight_limit s d 0 c.args.chain many.4 ks) c.from_residual-in_err-operator.ensures.1 (c.loop-left.invariant.leads d)
 
-pub sum-returns-in_err-right-clause-lands : goal.sum-returns-in_err-right-clause-lands
-sum-returns-in_err-right-clause-lands t c = λ d.
+pub parts-returns-in_err-right-clause-lands : goal.parts-returns-in_err-right-clause-lands
+parts-returns-in_err-right-clause-lands t c = λ d.
     let sign = rw c.in-Some.is at c.in_ok-operator.ensures.value in
     fails _ (c.in_err-right.ensures.lands d) c.from_residual-in_err-right.ensures.1
-    (and_weighted (wants.term ∷ wants.sum_tail ∷ []) sign.2 sign.3 (λ s ks. sum_goes weight_limit s d _ sign.1 ks) (c.loop-left.invariant.leads d))
+    (and_weighted (part_and_tail c.args.chain) sign.2 sign.3 (λ s ks. goes weight_limit s d _ c.args.chain sign.1 ks) (c.loop-left.invariant.leads d))
 
-pub sum-returns-in_err-left-2-clause-lands : goal.sum-returns-in_err-left-2-clause-lands
-sum-returns-in_err-left-2-clause-lands t c = λ d. no_memory_for c.from_residual-in_err-left-2.ensures.1
+pub parts-returns-in_err-left-2-clause-lands : goal.parts-returns-in_err-left-2-clause-lands
+parts-returns-in_err-left-2-clause-lands t c = λ d. no_memory_for c.from_residual-in_err-left-2.ensures.1
 
-pub sum-loop-left-preserved : goal.sum-loop-left-preserved
-sum-loop-left-preserved t c =
+pub parts-loop-left-preserved : goal.parts-loop-left-preserved
+parts-loop-left-preserved t c =
     let sign = rw c.in-Some.is at c.in_ok-operator.ensures.value in
     let right = c.in_ok-right.ensures in
     let so_far = c.loop-left.invariant in
@@ -226,71 +222,18 @@ sum-loop-left-preserved t c =
     let paid = right.weight_paid in
     let less = right.shorter in
     rw c.in_ok-left-2.ensures (record {
-      reads = added (rw sign.2 at so_far.reads) sign.1 right.value;
-      leads = λ d. and_then _ (right.lands d) (and_weighted (wants.term ∷ wants.sum_tail ∷ []) sign.2 sign.3 (λ s ks. sum_goes weight_limit s d _ sign.1 ks) (c.loop-left.invariant.leads d));
+      reads = one_more c.args.chain sign.2 so_far.reads sign.1 right.value;
+      leads = λ d. and_then _ (right.lands d) (and_weighted (part_and_tail c.args.chain) sign.2 sign.3 (λ s ks. goes weight_limit s d _ c.args.chain sign.1 ks) (c.loop-left.invariant.leads d));
       weight_paid = omega (arith, heavy, paid, so_far.weight_paid, sign.3);
       shorter = omega (arith, longer, less, so_far.shorter);
     })
 
-pub sum-returns-clause-value : goal.sum-returns-clause-value
-sum-returns-clause-value t c =
+pub parts-returns-clause-value : goal.parts-returns-clause-value
+parts-returns-clause-value t c =
     let none = rw c.in_default.is at c.in_ok-operator.ensures.value in
     rw none.1 c.loop-left.invariant.reads
 
-pub sum-returns-clause-lands : goal.sum-returns-clause-lands
-sum-returns-clause-lands t c = λ d.
+pub parts-returns-clause-lands : goal.parts-returns-clause-lands
+parts-returns-clause-lands t c = λ d.
     let none = rw c.in_default.is at c.in_ok-operator.ensures.value in
-    reads (unmoved none.0 none.1 (instead [] (λ s. sum_ends weight_limit s d _ (kinds_of c.loop-left.reader) none.2) (c.loop-left.invariant.leads d)))
-
-pub term-returns-in_err-left-clause-lands : goal.term-returns-in_err-left-clause-lands
-term-returns-in_err-left-clause-lands t c = λ d.
-    fails _ (c.in_err-left.ensures.lands d) c.from_residual.ensures.1
-    (instead (wants.factor ∷ wants.term_tail ∷ []) (λ s. term_begins weight_limit s d c.args.weight_left.now (kinds_of c.args.reader.now)) at_start)
-
-pub term-loop-left-init : goal.term-loop-left-init
-term-loop-left-init t c = record {
-  reads = one_factor c.in_ok-left.ensures.value;
-  leads = λ d. and_then _ (c.in_ok-left.ensures.lands d) (instead (wants.factor ∷ wants.term_tail ∷ []) (λ s. term_begins weight_limit s d c.args.weight_left.now (kinds_of c.args.reader.now)) at_start);
-  weight_paid = c.in_ok-left.ensures.weight_paid;
-  shorter = c.in_ok-left.ensures.shorter;
-}
-
-pub term-returns-in_err-operator-clause-lands : goal.term-returns-in_err-operator-clause-lands
-term-returns-in_err-operator-clause-lands t c = λ d.
-    let many = c.in_err-operator.ensures.value in
-    too_many (many.0, many.1, many.5) (λ s ks. term_deep weight_limit s d 0 many.4 ks) c.from_residual-in_err-operator.ensures.1 (c.loop-left.invariant.leads d)
-
-pub term-returns-in_err-right-clause-lands : goal.term-returns-in_err-right-clause-lands
-term-returns-in_err-right-clause-lands t c = λ d.
-    let sign = rw c.in-Some.is at c.in_ok-operator.ensures.value in
-    fails _ (c.in_err-right.ensures.lands d) c.from_residual-in_err-right.ensures.1
-    (and_weighted (wants.factor ∷ wants.term_tail ∷ []) sign.2 sign.3 (λ s ks. term_goes weight_limit s d _ sign.1 ks) (c.loop-left.invariant.leads d))
-
-pub term-returns-in_err-left-2-clause-lands : goal.term-returns-in_err-left-2-clause-lands
-term-returns-in_err-left-2-clause-lands t c = λ d. no_memory_for c.from_residual-in_err-left-2.ensures.1
-
-pub term-loop-left-preserved : goal.term-loop-left-preserved
-term-loop-left-preserved t c =
-    let sign = rw c.in-Some.is at c.in_ok-operator.ensures.value in
-    let right = c.in_ok-right.ensures in
-    let so_far = c.loop-left.invariant in
-    let heavy = heavier sign.1 sign.2 in
-    let longer = ap length sign.2 in
-    let paid = right.weight_paid in
-    let less = right.shorter in
-    rw c.in_ok-left-2.ensures (record {
-      reads = multiplied (rw sign.2 at so_far.reads) sign.1 right.value;
-      leads = λ d. and_then _ (right.lands d) (and_weighted (wants.factor ∷ wants.term_tail ∷ []) sign.2 sign.3 (λ s ks. term_goes weight_limit s d _ sign.1 ks) (c.loop-left.invariant.leads d));
-      weight_paid = omega (arith, heavy, paid, so_far.weight_paid, sign.3);
-      shorter = omega (arith, longer, less, so_far.shorter);
-    })
-
-pub term-returns-clause-value : goal.term-returns-clause-value
-term-returns-clause-value t c =
-    let none = rw c.in_default.is at c.in_ok-operator.ensures.value in
-    rw none.1 c.loop-left.invariant.reads
-
-pub term-returns-clause-lands : goal.term-returns-clause-lands
-term-returns-clause-lands t c = λ d.
-    let none = rw c.in_default.is at c.in_ok-operator.ensures.value in
-    reads (unmoved none.0 none.1 (instead [] (λ s. term_ends weight_limit s d _ (kinds_of c.loop-left.reader) none.2) (c.loop-left.invariant.leads d)))
+    reads (unmoved none.0 none.1 (instead [] (λ s. ends weight_limit s d _ c.args.chain (kinds_of c.loop-left.reader) none.2) (c.loop-left.invariant.leads d)))

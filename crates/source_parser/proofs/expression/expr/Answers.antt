@@ -17,9 +17,9 @@ outermost_reads old new left (Ok e) h paid = record { reads = h; fits = omega (a
 outermost_reads old new left (Err fault) h paid = tt
 
 pub returns-clause-value : goal.returns-clause-value
-returns-clause-value c = outermost_reads c.args.reader.now c.sum.new.reader c.sum.new.weight_left c.sum.result c.sum.ensures.value c.sum.ensures.weight_paid
+returns-clause-value c = outermost_reads c.args.reader.now c.parts.new.reader c.parts.new.weight_left c.parts.result c.parts.ensures.value c.parts.ensures.weight_paid
 
 pub returns-clause-lands : goal.returns-clause-lands
 returns-clause-lands c = λ d w.
-    within _ (c.sum.ensures.lands d) (λ s. fresh_ends weight_limit s d c.sum.new.weight_left (kinds_of c.sum.new.reader))
+    within _ (c.parts.ensures.lands d) (λ s. fresh_ends weight_limit s d c.parts.new.weight_left (kinds_of c.parts.new.reader))
     (instead (wants.sum ∷ wants.fresh ∷ []) (λ s. outermost_begins weight_limit s d w (kinds_of c.args.reader.now)) at_start)

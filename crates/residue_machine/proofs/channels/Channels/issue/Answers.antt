@@ -1,23 +1,13 @@
-use Rattle.std.proofs.Common.{◌<◌, ◌^◌, length, sym, subst}
 use Rattle.moduli_sets.specs.Moduli.{set_of}
-use Rattle.channel_lane.specs.Meaning.{CanPerform}
-use Rattle.residue_machine.specs.Bench.{Bench, bench_of}
+use Rattle.residue_machine.specs.Bench.{bench_of}
 use Rattle.residue_machine.proofs.BenchLemmas.{IsBench-more, can, room}
 use Rattle.residue_machine.proofs.channels.Channels.issue.Goals as goal
 
 pub issue-requires-clause-can : goal.issue-requires-clause-can
-issue-requires-clause-can g c =
-    let s = c.self.inside in
-    let old = bench_of (set_of s.set) s.object.now s.rack s.decoder s.issued s.corrections in
-    can g.R.Rack old c.args.op c.self.invariant.0.come
-    (subst (λ (b : Bench g.row.R.Denot g.row.D.Denot). CanPerform (length b.start) (length b.set.moduli) c.args.op) (sym c.self.view_is) c.requires.can)
+issue-requires-clause-can g c = can g.R.Rack _ _ c.args.op c.self.view_is c.self.invariant.0.come c.requires.can
 
 pub issue-requires-clause-room : goal.issue-requires-clause-room
-issue-requires-clause-room g c =
-    let s = c.self.inside in
-    let old = bench_of (set_of s.set) s.object.now s.rack s.decoder s.issued s.corrections in
-    room g.R.Rack old c.self.invariant.0.come
-    (subst (λ (b : Bench g.row.R.Denot g.row.D.Denot). b.issued < 10 ^ 18) (sym c.self.view_is) c.requires.room)
+issue-requires-clause-room g c = room g.R.Rack _ _ c.self.view_is c.self.invariant.0.come c.requires.room
 
 pub invariant_of-self : goal.invariant_of-self
 invariant_of-self g c =

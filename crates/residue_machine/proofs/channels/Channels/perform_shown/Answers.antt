@@ -1,4 +1,4 @@
-use Rattle.std.proofs.Common.{rules, arith, ◌≡◌, ◌<◌, ℤ, Bool, All, length, true, false, sym, subst, None}
+use Rattle.std.proofs.Common.{rules, arith, ◌<◌, ℤ, Bool, All, length, true, false, sym, subst, None}
 use Rattle.std.specs.Prelude.{int_lt, if◌then◌else◌}
 use Rattle.std.specs.Ordering.{int_eq}
 use Rattle.std.specs.Int.{w128}
@@ -23,7 +23,7 @@ use Rattle.residue_machine.specs.declared.ending.Ended.TheVariants as ended
 use Rattle.residue_machine.specs.declared.outcome.Outcome.TheVariants as outcome
 use Rattle.residue_machine.specs.Outcomes.{ComesTo, GoesOn}
 use Rattle.micro_plan.proofs.ToldInstructions.{info_below}
-use Rattle.residue_machine.proofs.ActLemmas.{comes-ask, comes-else, comes-halt, comes-if, comes-next, comes-to, comes-trap, comes-went}
+use Rattle.residue_machine.proofs.ActLemmas.{comes-check, comes-halt, comes-next, comes-to, comes-trap, comes-went, lies_in-said}
 use Rattle.residue_machine.proofs.OperandLemmas.{named}
 use Rattle.residue_machine.proofs.channels.Channels.perform_shown.Goals as goal
 
@@ -119,27 +119,19 @@ returns-then-lies_in-clause-comes g c = λ control.
     let b = c.args.self.now in
     let chk = c.in-Chk in
     let x = c.in-Ok-hear.x in
-    let fits : FitsSigned w128 x = search rules in
-    let fits_low : FitsSigned w128 chk.low = search rules in
-    let fits_high : FitsSigned w128 chk.high = search rules in
-    let within : lies_in chk.low chk.high x ≡ true = cc (c.lies_in.ensures, c.if-lies_in.true, to_z-of_z w128 x fits, to_z-of_z w128 chk.low fits_low, to_z-of_z w128 chk.high fits_high) in
+    let within = lies_in-said chk.low chk.high x c.lies_in.result true (search rules) (search rules) (search rules) c.lies_in.ensures c.if-lies_in.true in
     subst (λ (i : Instr). ComesTo g.R.Rack radius None (acts_of b.set i control) control b outcome.Next c.hear.new.self) (sym chk.is)
-    (comes-ask g.R.Rack radius None (Reg chk.a) (λ y. if lies_in chk.low chk.high y then go_on (next control) else end_by (traps Range chk.line)) x control b c.hear.new.self c.hear.new.self outcome.Next c.in-Ok-hear.ensures.told
-    (comes-if g.R.Rack radius None (lies_in chk.low chk.high x) (go_on (next control)) (end_by (traps Range chk.line)) control c.hear.new.self c.hear.new.self outcome.Next within (comes-next g.R.Rack radius None control c.hear.new.self)))
+    (comes-check g.R.Rack radius None chk.a chk.low chk.high x chk.line true control b c.hear.new.self outcome.Next c.in-Ok-hear.ensures.told within (comes-next g.R.Rack radius None control c.hear.new.self))
 
 pub returns-else-lies_in-clause-comes : goal.returns-else-lies_in-clause-comes
 returns-else-lies_in-clause-comes g c = λ control.
     let b = c.args.self.now in
     let chk = c.in-Chk in
     let x = c.in-Ok-hear.x in
-    let fits : FitsSigned w128 x = search rules in
-    let fits_low : FitsSigned w128 chk.low = search rules in
-    let fits_high : FitsSigned w128 chk.high = search rules in
-    let outside : lies_in chk.low chk.high x ≡ false = cc (c.lies_in.ensures, c.if-lies_in.false, to_z-of_z w128 x fits, to_z-of_z w128 chk.low fits_low, to_z-of_z w128 chk.high fits_high) in
+    let outside = lies_in-said chk.low chk.high x c.lies_in.result false (search rules) (search rules) (search rules) c.lies_in.ensures c.if-lies_in.false in
     let after = outcome.End (ended.Trap Range chk.line) in
     subst (λ (i : Instr). ComesTo g.R.Rack radius None (acts_of b.set i control) control b after c.hear.new.self) (sym chk.is)
-    (comes-ask g.R.Rack radius None (Reg chk.a) (λ y. if lies_in chk.low chk.high y then go_on (next control) else end_by (traps Range chk.line)) x control b c.hear.new.self c.hear.new.self after c.in-Ok-hear.ensures.told
-    (comes-else g.R.Rack radius None (lies_in chk.low chk.high x) (go_on (next control)) (end_by (traps Range chk.line)) control c.hear.new.self c.hear.new.self after outside (comes-trap g.R.Rack radius None Range chk.line control c.hear.new.self)))
+    (comes-check g.R.Rack radius None chk.a chk.low chk.high x chk.line false control b c.hear.new.self after c.in-Ok-hear.ensures.told outside (comes-trap g.R.Rack radius None Range chk.line control c.hear.new.self))
 
 pub returns-in-Err-hear-clause-comes : goal.returns-in-Err-hear-clause-comes
 returns-in-Err-hear-clause-comes g c = λ control.

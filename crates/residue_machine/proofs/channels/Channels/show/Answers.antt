@@ -1,24 +1,15 @@
-use Rattle.std.proofs.Common.{◌<◌, ◌^◌, length, sym, subst}
+use Rattle.std.proofs.Common.{subst}
 use Rattle.moduli_sets.specs.Moduli.{set_of}
 use Rattle.channel_alu.specs.declared.operation.MicroOp.TheVariants.{Show}
-use Rattle.channel_lane.specs.Meaning.{HasPlace}
 use Rattle.residue_machine.specs.Bench.{Bench, HasShown, bench_of}
 use Rattle.residue_machine.proofs.BenchLemmas.{IsBench-more, bench_with, can, room, shown-one}
 use Rattle.residue_machine.proofs.channels.Channels.show.Goals as goal
 
 pub show-column-requires-clause-place : goal.show-column-requires-clause-place
-show-column-requires-clause-place g c =
-    let s = c.self.inside in
-    let old = bench_of (set_of s.set) s.object.now s.rack s.decoder s.issued s.corrections in
-    can g.R.Rack old (Show c.args.place) c.self.invariant.0.come
-    (subst (λ (b : Bench g.row.R.Denot g.row.D.Denot). HasPlace (length b.start) c.args.place) (sym c.self.view_is) c.requires.place)
+show-column-requires-clause-place g c = can g.R.Rack _ _ (Show c.args.place) c.self.view_is c.self.invariant.0.come c.requires.place
 
 pub show-column-requires-clause-room : goal.show-column-requires-clause-room
-show-column-requires-clause-room g c =
-    let s = c.self.inside in
-    let old = bench_of (set_of s.set) s.object.now s.rack s.decoder s.issued s.corrections in
-    room g.R.Rack old c.self.invariant.0.come
-    (subst (λ (b : Bench g.row.R.Denot g.row.D.Denot). b.issued < 10 ^ 18) (sym c.self.view_is) c.requires.room)
+show-column-requires-clause-room g c = room g.R.Rack _ _ c.self.view_is c.self.invariant.0.come c.requires.room
 
 pub invariant_of-self : goal.invariant_of-self
 invariant_of-self g c =

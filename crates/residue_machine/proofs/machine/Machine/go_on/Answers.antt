@@ -7,7 +7,7 @@ use Rattle.moduli_sets.specs.Set.{radius}
 use Rattle.residue_machine.specs.declared.ending.Stepped.TheVariants.{On, Print}
 use Rattle.residue_machine.specs.declared.outcome.Outcome.TheVariants as outcome
 use Rattle.residue_machine.specs.Machine.{ending_by, ending_held, ending_of_held, machine_of}
-use Rattle.residue_machine.proofs.StepLemmas.{step-again, step-fresh, stepped-off, stepped-on}
+use Rattle.residue_machine.proofs.StepLemmas.{step-again, step-fresh, step-on, stepped-off}
 use Rattle.residue_machine.proofs.machine.Machine.go_on.Goals as goal
 
 pub returns-in-Some : goal.returns-in-Some
@@ -17,33 +17,20 @@ returns-in-Some g c =
 
 pub returns-in-Next : goal.returns-in-Next
 returns-in-Next g c =
-    let s = c.self.inside in
-    let old = machine_of s.channels s.position s.taken s.ended in
-    let fresh : old.ended ≡ None = ap ending_held c.in_default.is in
     let done = c.perform_next-outcome.new in
-    step-fresh g.R.Rack radius None c.args.self.now old _ On c.self.view_is fresh
-    (stepped-on g.R.Rack radius None old done.position c.advance.new.self done.channels outcome.Next On (ending_held s.ended) fresh c.in-Next.ensures.comes (ap Some (sym c.advance.ensures)) refl refl)
+    step-on g.R.Rack radius None c.args.self.now _ done.position c.advance.new.self done.channels outcome.Next On c.self.view_is (ap ending_held c.in_default.is) c.in-Next.ensures.comes (ap Some (sym c.advance.ensures)) refl refl
 
 pub returns-in-To : goal.returns-in-To
 returns-in-To g c =
-    let s = c.self.inside in
-    let old = machine_of s.channels s.position s.taken s.ended in
-    let fresh : old.ended ≡ None = ap ending_held c.in_default.is in
     let done = c.perform_next-outcome.new in
-    step-fresh g.R.Rack radius None c.args.self.now old _ On c.self.view_is fresh
-    (stepped-on g.R.Rack radius None old done.position c.jump.new.self done.channels (outcome.To c.in-To.target) On (ending_held s.ended) fresh c.in-To.ensures.comes (ap Some (sym c.jump.ensures)) refl refl)
+    step-on g.R.Rack radius None c.args.self.now _ done.position c.jump.new.self done.channels (outcome.To c.in-To.target) On c.self.view_is (ap ending_held c.in_default.is) c.in-To.ensures.comes (ap Some (sym c.jump.ensures)) refl refl
 
 pub returns-in-Print : goal.returns-in-Print
 returns-in-Print g c =
-    let s = c.self.inside in
-    let old = machine_of s.channels s.position s.taken s.ended in
-    let fresh : old.ended ≡ None = ap ending_held c.in_default.is in
     let done = c.perform_next-outcome.new in
     let x = c.in-Print.x in
     let fits : FitsSigned w128 x = search rules in
-    let answer = Print (to_z w128 (of_z w128 x)) in
-    step-fresh g.R.Rack radius None c.args.self.now old _ answer c.self.view_is fresh
-    (stepped-on g.R.Rack radius None old done.position c.advance-in-Print.new.self done.channels (outcome.Print x) answer (ending_held s.ended) fresh c.in-Print.ensures.comes (ap Some (sym c.advance-in-Print.ensures)) (ap (λ z. z ∷ []) (sym (to_z-of_z w128 x fits))) refl)
+    step-on g.R.Rack radius None c.args.self.now _ done.position c.advance-in-Print.new.self done.channels (outcome.Print x) (Print (to_z w128 (of_z w128 x))) c.self.view_is (ap ending_held c.in_default.is) c.in-Print.ensures.comes (ap Some (sym c.advance-in-Print.ensures)) (ap (λ z. z ∷ []) (sym (to_z-of_z w128 x fits))) refl
 
 pub returns-in-End : goal.returns-in-End
 returns-in-End g c =

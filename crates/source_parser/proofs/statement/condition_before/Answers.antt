@@ -1,7 +1,7 @@
 use Rattle.source_parser.specs.Landings.{reads}
 use Rattle.source_parser.proofs.Moves.{at_start, and_then, fails}
 use Rattle.source_parser.proofs.TokenMoves.{and_token, no_token}
-use Rattle.source_parser.proofs.statement.if_condition.Goals as goal
+use Rattle.source_parser.proofs.statement.condition_before.Goals as goal
 
 pub returns-in_err-condition-clause-lands : goal.returns-in_err-condition-clause-lands
 returns-in_err-condition-clause-lands c = λ d w. fails _ (c.in_err-condition.ensures.lands d w) c.from_residual.ensures.1 at_start
