@@ -1,4 +1,4 @@
-"""Who is asked what `rnm` writes: the built program, or the second evaluator, which knows `mean` alone."""
+"""Who is asked what `rnm` writes: the built program, or the second evaluator, which knows `mean` and `exec` alone."""
 import os
 import subprocess
 import sys
@@ -6,6 +6,7 @@ import tempfile
 from pathlib import Path
 
 from second.evaluation import answer
+from second.machine import exec_answer
 
 TOP = Path(__file__).resolve().parent.parent
 PROGRAM = os.environ.get("RNM_PROGRAM", str(TOP / "crates" / "rnm" / "out" / "rnm"))
@@ -24,14 +25,15 @@ def ask_program(words, files):
 
 
 def ask_second(words, files):
-    """The same by the second evaluator, of words of `mean` that are a job; None of another command."""
-    if words[0] != "mean":
+    """The same by the second evaluator or machine, of words that are a job; None of a command that they don't know."""
+    if words[0] not in ("mean", "exec"):
         return None
     options = dict(word[2:].split("=", 1) for word in words[1:] if word.startswith("--"))
-    source, given = [word for word in words[1:] if not word.startswith("--")]
-    written, status, _ = answer(
-        files[source], b"" if given == "-" else files[given], options.get("set", "desk"),
-        int(options.get("steps", 1_000_000)))
+    first, given = [word for word in words[1:] if not word.startswith("--")]
+    text, steps = b"" if given == "-" else files[given], int(options.get("steps", 1_000_000))
+    if words[0] == "exec":
+        return exec_answer(files[first], text, steps)
+    written, status, _ = answer(files[first], text, options.get("set", "desk"), steps)
     return written, status
 
 
@@ -59,3 +61,12 @@ def report(where, wrong):
     for line in wrong:
         print(f"      {line}")
     return bool(wrong)
+
+
+def kept(words, files, begin):
+    """A new folder with the files of a job; its name begins so."""
+    folder = tempfile.mkdtemp(prefix=begin)
+    for name, content in files.items():
+        (Path(folder) / name).write_bytes(content)
+    (Path(folder) / "words").write_text(" ".join(words) + "\n")
+    return folder

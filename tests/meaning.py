@@ -8,30 +8,19 @@ named. With `--shown` it asks nobody, and prints how the answers of the second e
 """
 import random
 import sys
-import tempfile
 from collections import Counter
 from concurrent.futures import ProcessPoolExecutor
 from itertools import repeat
-from pathlib import Path
 
 sys.dont_write_bytecode = True
 
-from asking import ask_program, ask_second, difference, report
+from asking import ask_program, ask_second, difference, kept, report
 from second.sources import random_job
 
 SEED = 15
 COUNT = 5_000
 MOST_TOLD = 5
 SHOWN = "--shown"
-
-
-def kept(words, files):
-    """A new folder with the files of a job."""
-    folder = tempfile.mkdtemp(prefix="rnm_meaning_")
-    for name, content in files.items():
-        (Path(folder) / name).write_bytes(content)
-    (Path(folder) / "words").write_text(" ".join(words) + "\n")
-    return folder
 
 
 def sort_of(written):
@@ -59,7 +48,7 @@ def main(given):
         return 0
     wrong = [(words, files, lines) for words, files, _, lines in found if lines]
     for words, files, lines in wrong[:MOST_TOLD]:
-        report(f"the meaning of a random source: {' '.join(words)}, in {kept(words, files)}", lines)
+        report(f"the meaning of a random source: {' '.join(words)}, in {kept(words, files, 'rnm_meaning_')}", lines)
     if wrong:
         print(f"      {len(wrong)} of {count} answers differ")
     return 1 if wrong else 0

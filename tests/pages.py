@@ -2,15 +2,16 @@
 """tests/pages.py [--second] [PAGE..]
 
 Runs the examples of the pages that a user reads, from the pages themselves, and compares what is written. On a page each
-fenced block without a word behind its fence is one of these two:
+fenced block without a word behind its fence, or with the word `hex`, is one of these:
 
 - A session, which begins with `$ `. `$ echo WORDS > FILE` makes a file. `$ rnm WORDS` or `$ ./rnm WORDS` runs the program,
   and what it writes stands below; its status is 0, or it is shown by `; echo $?` behind the words and is the last line.
-- A file, for the next session: the one that is its first operand.
+- A file, for the next session: the one that is its first operand. With `hex` it is bytes in hexadecimal; `#` and what is
+  behind it in a line is a comment.
 
-Besides, the files of a page's own folder are there, where that is a folder of examples. Blocks with a word behind the
-fence are of another kind (`ebnf`, `text`) and aren't run. With `--second` it asks the second evaluator of tests/second,
-which knows `mean` alone.
+Besides, the files of a page's own folder are there, where that is a folder of examples. Blocks with another word behind
+the fence are of another kind (`ebnf`, `text`) and aren't run. With `--second` it asks the second evaluator and the second
+machine of tests/second, which know `mean` and `exec` alone.
 """
 import re
 import sys
@@ -20,9 +21,10 @@ sys.dont_write_bytecode = True
 
 from asking import TOP, asked, difference, report
 
-PAGES = [TOP / "README.md", TOP / "docs" / "FORMATS.md", TOP / "docs" / "LANGUAGE.md"]
+PAGES = [TOP / "README.md", *(TOP / "docs" / name for name in ("FORMATS.md", "LANGUAGE.md", "MACHINE.md"))]
 EXAMPLES = TOP / "examples"
 FENCE = "```"
+HEX = "hex"
 SHOWS_STATUS = "; echo $?"
 
 
@@ -47,19 +49,26 @@ class Run:
 
 
 def blocks_of(text):
-    """The blocks without a word behind their fence: the line of the fence and the lines inside."""
-    found, inside, runs = [], None, False
+    """The blocks that are run: the line of the fence, the word behind it, and the lines inside."""
+    found, inside, word = [], None, ""
     for number, line in enumerate(text.split("\n"), 1):
         if not line.startswith(FENCE):
             if inside is not None:
                 inside.append(line)
         elif inside is None:
-            inside, runs, begin = [], line == FENCE, number
+            inside, word, begin = [], line.removeprefix(FENCE), number
         else:
-            if runs:
-                found.append((begin, inside))
+            if word in ("", HEX):
+                found.append((begin, word, inside))
             inside = None
     return found
+
+
+def content_of(word, lines):
+    """The bytes of a block that is a file."""
+    if word == HEX:
+        return bytes.fromhex("".join(line.partition("#")[0] for line in lines))
+    return "".join(f"{line}\n" for line in lines).encode()
 
 
 def runs_of_session(begin, lines, files, source):
@@ -88,12 +97,12 @@ def runs_of(page):
     if EXAMPLES in page.parents:
         files = {path.name: path.read_bytes() for path in page.parent.iterdir() if path != page}
     source, runs = None, []
-    for begin, lines in blocks_of(page.read_text(encoding="utf-8")):
+    for begin, word, lines in blocks_of(page.read_text(encoding="utf-8")):
         if lines and lines[0].startswith("$ "):
             runs += runs_of_session(begin, lines, files, source)
             source = None
         elif source is None:
-            source = "".join(f"{line}\n" for line in lines).encode()
+            source = content_of(word, lines)
         else:
             raise SystemExit(f"{page}:{begin}: no session uses the file before this block")
     if source is not None:

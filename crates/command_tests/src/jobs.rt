@@ -211,6 +211,60 @@ fn meanings_are_refused(rt: HostRuntime) -> Result<(), Fail> {
     Ok(())
 }
 
+/// An object of `pocket`: `LDI 0 42` and `OUT 0`.
+fn object() -> [u8; 96] {
+    let mut bytes = [0; 96];
+    bytes[0] = b'R';
+    bytes[1] = b'N';
+    bytes[2] = b'M';
+    bytes[3] = b'O';
+    bytes[4] = 1;
+    bytes[5] = 1;
+    bytes[11] = 2;
+    bytes[16] = 1;
+    bytes[39] = 42;
+    bytes[56] = 20;
+    bytes
+}
+
+#[test]
+fn objects_run_or_are_refused(rt: HostRuntime) -> Result<(), Fail> {
+    let bytes = object();
+    for (words, ended, printed) in [
+        (
+            ["exec", "a.src", "-"].as_slice(),
+            Status::Ok,
+            "42\nend\ncorrected 0 0 0 0 0\n",
+        ),
+        (
+            &["exec", "a.src", "-", "--steps=2"],
+            Status::Spent,
+            "42\nspent\ncorrected 0 0 0 0 0\n",
+        ),
+        (
+            &["exec", "a.src", "a.src"],
+            Status::InputRefused,
+            "refused input 0\n",
+        ),
+    ] {
+        let (status, written) = done(rt.alloc(), words, &bytes, &NONE)?;
+        assert_eq!(rt; status, ended);
+        assert_eq!(rt; written.as_slice(), printed.as_bytes());
+    }
+    let words = ["exec", "a.src", "-"];
+    let (status, written) = done(rt.alloc(), &words, &bytes[..95], &NONE)?;
+    assert_eq!(rt; status, Status::ObjectRefused);
+    assert_eq!(rt; written.as_slice(), b"refused object short 95\n".as_slice());
+    let second = Failing {
+        fetches: &[],
+        puts: &[(1, 2)],
+    };
+    let (status, written) = done(rt.alloc(), &words, &bytes, &second)?;
+    assert_eq!(rt; status, Status::Unwritten);
+    assert_eq!(rt; written.as_slice(), b"42\nen".as_slice());
+    Ok(())
+}
+
 #[test]
 fn files_are_refused(rt: HostRuntime) -> Result<(), Fail> {
     let missing = ["run", "b.src", "-", "--set=pocket"];

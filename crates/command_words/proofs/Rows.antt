@@ -2,12 +2,19 @@
 use Rattle.std.specs.Prelude.{◌≡◌, refl, pos, negsuc, [], ◌∷◌, Some, None, codes, map, replicate}
 use Rattle.moduli_sets.specs.declared.set_name.SetName.TheVariants.{Pocket, Desk, Hall}
 use Rattle.word_readers.specs.Operands.{whole_word}
-use Rattle.command_words.specs.declared.job.Job.TheVariants.{Run, Decode, Encode, Mean, Set}
+use Rattle.command_words.specs.declared.job.Job.TheVariants.{Run, Exec, Decode, Encode, Mean, Set}
 use Rattle.command_words.specs.Words.{job_of_words}
 
 -- ---- jobs
 run_row : job_of_words (codes "run" ∷ codes "a.src" ∷ codes "-" ∷ codes "--set=pocket" ∷ []) ≡ Some (Run (whole_word 1))
 run_row = refl
+
+-- with no input and the default limit, and with an option between the operands
+exec_rows : map job_of_words (
+    (codes "exec" ∷ codes "a.rnm" ∷ codes "-" ∷ [])
+    ∷ (codes "exec" ∷ codes "a.rnm" ∷ codes "--steps=7" ∷ codes "b" ∷ [])
+    ∷ []) ≡ Some (Exec (whole_word 1) None 1000000) ∷ Some (Exec (whole_word 1) (Some (whole_word 3)) 7) ∷ []
+exec_rows = refl
 
 set_row : job_of_words (codes "set" ∷ codes "desk" ∷ []) ≡ Some (Set Desk)
 set_row = refl
@@ -54,6 +61,19 @@ run_faults : map job_of_words (
     ∷ (codes "run" ∷ codes "a.src" ∷ codes "--set=pocket" ∷ codes "-" ∷ [])
     ∷ []) ≡ replicate 5 None
 run_faults = refl
+
+-- operands none, too few and too many, `-` for an object, a set, an option twice, a limit of 0 and one past the greatest
+exec_faults : map job_of_words (
+    (codes "exec" ∷ [])
+    ∷ (codes "exec" ∷ codes "a" ∷ [])
+    ∷ (codes "exec" ∷ codes "a" ∷ codes "b" ∷ codes "c" ∷ [])
+    ∷ (codes "exec" ∷ codes "-" ∷ codes "-" ∷ [])
+    ∷ (codes "exec" ∷ codes "a" ∷ codes "-" ∷ codes "--set=desk" ∷ [])
+    ∷ (codes "exec" ∷ codes "a" ∷ codes "-" ∷ codes "--steps=7" ∷ codes "--steps=7" ∷ [])
+    ∷ (codes "exec" ∷ codes "a" ∷ codes "-" ∷ codes "--steps=0" ∷ [])
+    ∷ (codes "exec" ∷ codes "a" ∷ codes "-" ∷ codes "--steps=1000000001" ∷ [])
+    ∷ []) ≡ replicate 8 None
+exec_faults = refl
 
 set_faults : map job_of_words (
     (codes "set" ∷ [])

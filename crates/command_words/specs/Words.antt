@@ -1,5 +1,5 @@
 -- The job that a list of words asks for. A word is its bytes; word 0 is the command.
-use Rattle.std.specs.Prelude.{ℕ, ◌&&◌, ⊤, List, [], ◌∷◌, Option, None, IfSome, option_and_then, codes, if◌then◌else◌}
+use Rattle.std.specs.Prelude.{ℕ, ◌≤◌, ◌&&◌, ⊤, List, [], ◌∷◌, Option, None, IfSome, option_and_then, codes, if◌then◌else◌}
 use Rattle.std.specs.Option.{option_map}
 use Rattle.std.specs.Str.{bytes_eq}
 use Rattle.number_theory.specs.Residue.{AreResidues}
@@ -12,7 +12,7 @@ use Rattle.word_readers.specs.Numbers.{integer_in_range, residues_in, steps_in}
 use Rattle.word_readers.specs.Operands.{IsFileWord, file_and_input, named_file, operands_of}
 use Rattle.word_readers.specs.Options.{OptionTable, has_only_options, option_of, values_of}
 use Rattle.command_words.specs.declared.job.Job.{Job}
-use Rattle.command_words.specs.declared.job.Job.TheVariants.{Run, Decode, Encode, Mean, Set}
+use Rattle.command_words.specs.declared.job.Job.TheVariants.{Run, Exec, Decode, Encode, Mean, Set}
 
 -- `run SOURCE - --set=pocket`, the words in this order
 abbrev pub run_job : List (List ℕ) → Option Job
@@ -57,10 +57,22 @@ mean_job words =
     (steps_option words)) (set_option words)) (file_and_input (operands_of words))
     else None
 
+-- the options of `exec`
+abbrev pub exec_options : OptionTable
+exec_options = (codes "--steps", Value) ∷ []
+
+-- `exec OBJECT INPUT`, with its option in any order
+abbrev pub exec_job : List (List ℕ) → Option Job
+exec_job words =
+    if has_only_options exec_options words
+    then option_and_then (λ files. option_map (Exec files.0 files.1) (steps_option words)) (file_and_input (operands_of words))
+    else None
+
 -- the job that words ask for, by their command; none where they are a usage fault
 abbrev pub job_of_command : List ℕ → List (List ℕ) → Option Job
 job_of_command command words =
     if bytes_eq command (codes "run") then run_job words
+    else if bytes_eq command (codes "exec") then exec_job words
     else if bytes_eq command (codes "decode") then decode_job words
     else if bytes_eq command (codes "encode") then encode_job words
     else if bytes_eq command (codes "mean") then mean_job words
@@ -71,9 +83,10 @@ job_of_words [] = None
 job_of_words (command ∷ operands) = job_of_command command (command ∷ operands)
 
 -- what a job holds: each file word is a part of one of the words; a vector has one residue for each channel of its
--- set, below its modulus; an integer is in the range of its set
+-- set, below its modulus; an integer is in the range of its set; an object's instructions are at most 1,000,000,000
 abbrev pub HoldsOf : List (List ℕ) → Job → Type 0
 HoldsOf words (Run source) = IsFileWord words source
+HoldsOf words (Exec object input steps) = IsFileWord words object × IfSome input (IsFileWord words) × (steps ≤ 1000000000)
 HoldsOf words (Decode set residues) = AreResidues (set_of_name set).moduli residues
 HoldsOf words (Encode set x) = IsInRange (set_of_name set) x
 HoldsOf words (Mean source input set steps) = IsFileWord words source × IfSome input (IsFileWord words)

@@ -1,5 +1,5 @@
-ghost use Rattle.std.specs.Prelude.{◌≡◌, IfSome, map, string_bytes};
-ghost use Rattle.command_words.specs.Words.{HoldsOf, decode_job, encode_job, job_of_words, mean_job, run_job, set_job, set_option, steps_option};
+ghost use Rattle.std.specs.Prelude.{◌≡◌, ◌≤◌, IfSome, map, string_bytes};
+ghost use Rattle.command_words.specs.Words.{HoldsOf, decode_job, encode_job, exec_job, job_of_words, mean_job, run_job, set_job, set_option, steps_option};
 
 use crate::Job;
 use moduli_sets::{Moduli, SetName};
@@ -10,6 +10,9 @@ use word_readers::{
 
 /// The options of `mean`.
 const MEAN_OPTIONS: [OptionRow; 2] = [("--set", OptionKind::Value), ("--steps", OptionKind::Value)];
+
+/// The options of `exec`.
+const EXEC_OPTIONS: [OptionRow; 1] = [("--steps", OptionKind::Value)];
 
 /// The limit of steps where the words say none.
 const DEFAULT_STEPS: u64 = 1_000_000;
@@ -22,6 +25,7 @@ pub fn job_of(words: &[String]) -> Option<Job>
     let (command, _) = words.split_first()?;
     match command.as_str() {
         "run" => run_job(words),
+        "exec" => exec_job(words),
         "decode" => decode_job(words),
         "encode" => encode_job(words),
         "mean" => mean_job(words),
@@ -43,6 +47,23 @@ fn run_job(words: &[String]) -> Option<Job>
     }
     let source = named_file(words, 1)?;
     Some(Job::Run { source })
+}
+
+/// `exec OBJECT INPUT`, with the option `--steps=N` before, between or after them.
+fn exec_job(words: &[String]) -> Option<Job>
+    ensures value { result ≡ exec_job (map string_bytes words.now) }
+    ensures holds { IfSome result (HoldsOf (map string_bytes words.now)) }
+{
+    if !has_only_options(words, &EXEC_OPTIONS) {
+        return None;
+    }
+    let (object, input) = file_and_input(words)?;
+    let steps = steps_option(words)?;
+    Some(Job::Exec {
+        object,
+        input,
+        steps,
+    })
 }
 
 /// `decode SET RESIDUE ..`, one residue for each channel.
@@ -102,7 +123,8 @@ fn set_option(words: &[String]) -> Option<SetName>
 
 /// The limit that the option `--steps` writes, or 1,000,000 where it isn't there.
 fn steps_option(words: &[String]) -> Option<u64>
-    ensures { result ≡ steps_option (map string_bytes words.now) }
+    ensures value { result ≡ steps_option (map string_bytes words.now) }
+    ensures few { IfSome result (λ steps. steps ≤ 1000000000) }
 {
     match option_value(words, "--steps")? {
         Some(number) => steps_in(number.as_bytes()),

@@ -1,2 +1,4 @@
 pub mod EndingLemmas
 pub mod FileLemmas
+mod NumberTexts
+mod Rows

@@ -5,6 +5,7 @@ pub use Rattle.number_text.specs.Lines
 pub use Rattle.source_reader.specs.Reading
 pub use Rattle.word_readers.specs.Operands
 pub mod StatusNumber
+pub mod Numbers
 pub mod EndingLines
 pub mod Endings
 pub mod Files

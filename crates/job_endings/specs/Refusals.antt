@@ -2,14 +2,18 @@
 use Rattle.std.specs.Prelude.{ℕ, Bool, true, false, List, ◌++◌, codes}
 use Rattle.std.specs.Fmt.{decimal}
 use Rattle.number_text.specs.Lines.{line}
+use Rattle.machine_table.specs.declared.fault.ObjectFault.{ObjectFault}
+use Rattle.machine_table.specs.declared.fault.ObjectFault.TheVariants.{TooMuchCode, TooMuchData, BadRegister, BadTarget, BadAddress, BadConstant, BadDatum}
 use Rattle.source_reader.specs.declared.fault.SourceFault.{SourceFault}
 use Rattle.source_reader.specs.declared.fault.SourceKind.{SourceKind}
 use Rattle.source_reader.specs.declared.fault.SourceKind.TheVariants.{Byte, LongNumber, Syntax, TooDeep, UnknownName, NameTwice, WrongKind, LoopAssigned, Arguments, BadRange, EmptyArray, TooMany, TooWide, Unbuilt}
 use Rattle.word_readers.specs.Operands.{IsFileWord, file_name}
 use Rattle.job_endings.specs.declared.status.Status.{Status}
 use Rattle.job_endings.specs.declared.status.Status.TheVariants as status
+use Rattle.job_endings.specs.declared.object_kind.ObjectKind.{ObjectKind}
+use Rattle.job_endings.specs.declared.object_kind.ObjectKind.TheVariants.{Short, Magic, Version, Set, Long, Record, Unsound}
 use Rattle.job_endings.specs.declared.refusal.Refusal.{Refusal}
-use Rattle.job_endings.specs.declared.refusal.Refusal.TheVariants.{Usage, Unread, TooLong, Source, Input}
+use Rattle.job_endings.specs.declared.refusal.Refusal.TheVariants.{Usage, Unread, TooLong, Source, Object, Input}
 use Rattle.job_endings.specs.declared.refusal.Stop.{Stop}
 use Rattle.job_endings.specs.declared.refusal.Stop.TheVariants.{Refused, NoMemory}
 
@@ -33,12 +37,36 @@ kind_text Unbuilt = codes "unbuilt"
 abbrev pub source_line : SourceFault → List ℕ
 source_line fault = codes "refused source " ++ kind_text fault.kind ++ codes " " ++ decimal fault.line
 
+-- the rule that a program breaks, as it is printed, and the number of the instruction or data word that breaks it
+abbrev pub fault_told : ObjectFault → List ℕ
+fault_told TooMuchCode = codes "code " ++ decimal 0
+fault_told TooMuchData = codes "data " ++ decimal 0
+fault_told (BadRegister n) = codes "register " ++ decimal n
+fault_told (BadTarget n) = codes "target " ++ decimal n
+fault_told (BadAddress n) = codes "address " ++ decimal n
+fault_told (BadConstant n) = codes "constant " ++ decimal n
+fault_told (BadDatum n) = codes "datum " ++ decimal n
+
+-- what is wrong with an object, as it is printed
+abbrev pub object_text : ObjectKind → List ℕ
+object_text (Short length) = codes "short " ++ decimal length
+object_text Magic = codes "magic"
+object_text (Version version) = codes "version " ++ decimal version
+object_text (Set set) = codes "set " ++ decimal set
+object_text (Long surplus) = codes "long " ++ decimal surplus
+object_text (Record place) = codes "record " ++ decimal place
+object_text (Unsound fault) = codes "unsound " ++ fault_told fault
+
+abbrev pub object_line : ObjectKind → List ℕ
+object_line kind = codes "refused object " ++ object_text kind
+
 -- the line of a refusal; a file is named as the words name it
 abbrev pub refusal_line : List (List ℕ) → Refusal → List ℕ
 refusal_line words Usage = line (codes "usage")
 refusal_line words (Unread file) = line (codes "unread " ++ file_name words file)
 refusal_line words (TooLong file) = line (codes "too long " ++ file_name words file)
 refusal_line words (Source fault) = line (source_line fault)
+refusal_line words (Object kind) = line (object_line kind)
 refusal_line words (Input place) = line (codes "refused input " ++ decimal place)
 
 abbrev pub refusal_status : Refusal → Status
@@ -46,6 +74,7 @@ refusal_status Usage = status.Usage
 refusal_status (Unread file) = status.Unread
 refusal_status (TooLong file) = status.TooLong
 refusal_status (Source fault) = status.SourceRefused
+refusal_status (Object kind) = status.ObjectRefused
 refusal_status (Input place) = status.InputRefused
 
 -- whether the line of a refusal has the name of a file
@@ -54,6 +83,7 @@ names_file Usage = false
 names_file (Unread file) = true
 names_file (TooLong file) = true
 names_file (Source fault) = false
+names_file (Object kind) = false
 names_file (Input place) = false
 
 -- the file that a refusal names is named by the words
@@ -62,6 +92,7 @@ IsOfWords words Usage = Unit {0}
 IsOfWords words (Unread file) = IsFileWord words file
 IsOfWords words (TooLong file) = IsFileWord words file
 IsOfWords words (Source fault) = Unit {0}
+IsOfWords words (Object kind) = Unit {0}
 IsOfWords words (Input place) = Unit {0}
 
 abbrev pub IsStopOfWords : List (List ℕ) → Stop → Type 0

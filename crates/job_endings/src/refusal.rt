@@ -6,6 +6,7 @@ ghost use Rattle.job_endings.specs.Endings.{EndsPut, EndsWith};
 ghost use Rattle.job_endings.specs.Refusals.{IsOfWords, names_file, refusal_line, refusal_status, source_line};
 
 use crate::lines::put_lines;
+use crate::object_kind::{ObjectKind, object_line};
 use crate::status::Status;
 use number_text::Line;
 use outside::{Put, Sink};
@@ -24,6 +25,8 @@ pub enum Refusal {
     TooLong(FileWord),
     /// The source is refused.
     Source(SourceFault),
+    /// The object is refused.
+    Object(ObjectKind),
     /// The first word of the input that is no whole number stands at this place, counted in bytes from 0.
     Input(usize),
 }
@@ -70,6 +73,7 @@ pub fn put_refusal<K: Sink>(
             )
         }
         Refusal::Source(fault) => put_lines(sink, &[source_line(fault)], Status::SourceRefused),
+        Refusal::Object(kind) => put_lines(sink, &[object_line(kind)], Status::ObjectRefused),
         Refusal::Input(place) => put_lines(sink, &[input_line(place)], Status::InputRefused),
     }
 }

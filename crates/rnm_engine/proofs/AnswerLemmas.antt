@@ -10,7 +10,7 @@ use Rattle.command_words.specs.Words.{job_of_words}
 use Rattle.job_endings.specs.declared.status.Status.{Status}
 use Rattle.job_endings.specs.declared.status.Status.TheVariants as status
 use Rattle.job_endings.specs.declared.refusal.Refusal.{Refusal}
-use Rattle.job_endings.specs.declared.refusal.Refusal.TheVariants.{Usage, Unread, TooLong, Source, Input}
+use Rattle.job_endings.specs.declared.refusal.Refusal.TheVariants.{Usage, Unread, TooLong, Source, Object, Input}
 use Rattle.job_endings.specs.declared.refusal.Stop.{Stop}
 use Rattle.job_endings.specs.declared.refusal.Stop.TheVariants.{Refused, NoMemory}
 use Rattle.job_endings.specs.Refusals.{refusal_status}
@@ -44,6 +44,7 @@ own_is_final (refused Usage) h = refl
 own_is_final (refused (Unread file)) h = refl
 own_is_final (refused (TooLong file)) h = refl
 own_is_final (refused (Source fault)) h = refl
+own_is_final (refused (Object kind)) h = refl
 own_is_final (refused (Input place)) h = refl
 
 refusal_is_final : (refusal : Refusal) → is_final (refusal_status refusal) ≡ true
@@ -51,6 +52,7 @@ refusal_is_final Usage = refl
 refusal_is_final (Unread file) = refl
 refusal_is_final (TooLong file) = refl
 refusal_is_final (Source fault) = refl
+refusal_is_final (Object kind) = refl
 refusal_is_final (Input place) = refl
 
 job_answer_is_final : (job : Option Job) (given : Given) (answer : Answer) → IsJobAnswer job given answer → is_final (answer_status answer) ≡ true
@@ -67,6 +69,7 @@ own_is_read (refused Usage) h e = cc
 own_is_read (refused (Unread file)) h e = cc
 own_is_read (refused (TooLong file)) h e = cc
 own_is_read (refused (Source fault)) h e = cc
+own_is_read (refused (Object kind)) h e = cc
 own_is_read (refused (Input place)) h e = cc
 
 unread_names : (refusal : Refusal) → refusal_status refusal ≡ status.Unread → (file : FileWord) × (refusal ≡ Unread file)
@@ -74,6 +77,7 @@ unread_names Usage e = absurd (cc)
 unread_names (Unread file) e = (file, refl)
 unread_names (TooLong file) e = absurd (cc)
 unread_names (Source fault) e = absurd (cc)
+unread_names (Object kind) e = absurd (cc)
 unread_names (Input place) e = absurd (cc)
 
 unread_given : (job : Option Job) (given : Given) (answer : Answer) → IsJobAnswer job given answer → answer_status answer ≡ status.Unread → (file : FileWord) × (given ≡ Err (Refused (Unread file)))

@@ -1,5 +1,6 @@
 -- What a job does once its files are there: a row a command in each table.
 use Rattle.std.specs.Prelude.{◌≡◌, ◌≢◌, ℕ, ℤ, ◌⊎◌, Bool, true, false, List, [], ◌∷◌, ◌++◌, Option, Some, None, Result, Ok, Err, slice_index_or, codes, ⊤}
+use Rattle.std.specs.FinMap.{empty}
 use Rattle.number_text.specs.Lines.{line, print_lines}
 use Rattle.outside.specs.Sink.{SinkState}
 use Rattle.thin_source.specs.ThinTree.{Program}
@@ -13,7 +14,7 @@ use Rattle.source_reader.specs.declared.fault.SourceFault.{SourceFault}
 use Rattle.source_reader.specs.declared.fault.SourceKind.TheVariants.{Unbuilt}
 use Rattle.source_reader.specs.Reading.{IsFirstFault, IsProgramOf}
 use Rattle.command_words.specs.declared.job.Job.{Job}
-use Rattle.command_words.specs.declared.job.Job.TheVariants.{Run, Decode, Encode, Mean, Set}
+use Rattle.command_words.specs.declared.job.Job.TheVariants.{Run, Decode, Encode, Exec, Mean, Set}
 use Rattle.word_readers.specs.declared.operands.FileWord.{FileWord}
 use Rattle.moduli_sets.specs.Name.{set_of_name}
 use Rattle.moduli_sets.specs.Set.{radius}
@@ -22,7 +23,8 @@ use Rattle.redundant_decoder.specs.Verdict.{IsVerdict}
 use Rattle.job_endings.specs.declared.status.Status.{Status}
 use Rattle.job_endings.specs.declared.status.Status.TheVariants as status
 use Rattle.job_endings.specs.declared.refusal.Refusal.{Refusal}
-use Rattle.job_endings.specs.declared.refusal.Refusal.TheVariants.{Source, Input}
+use Rattle.job_endings.specs.declared.refusal.Refusal.TheVariants.{Source, Object, Input}
+use Rattle.job_endings.specs.declared.object_kind.ObjectKind.TheVariants as kind
 use Rattle.job_endings.specs.declared.refusal.Stop.{Stop}
 use Rattle.job_endings.specs.declared.refusal.Stop.TheVariants.{Refused, NoMemory}
 use Rattle.job_endings.specs.declared.ending.Ending.{Ending}
@@ -30,6 +32,10 @@ use Rattle.job_endings.specs.declared.ending.Ending.TheVariants.{End, Trap, Spen
 use Rattle.job_endings.specs.EndingLines.{ending_line, ending_status}
 use Rattle.job_endings.specs.Endings.{EndsPut}
 use Rattle.job_endings.specs.Refusals.{names_file, refusal_line, refusal_status}
+use Rattle.object_bytes.specs.declared.fault.LoadFault.{LoadFault}
+use Rattle.object_bytes.specs.declared.fault.LoadFault.TheVariants as load
+use Rattle.object_bytes.specs.Loading.{Program as ObjectProgram, load_fault, program_in}
+use Rattle.object_runs.specs.RunText.{run_lines, run_status, trace_of}
 use Rattle.set_commands.specs.Decode.{verdict_lines, verdict_status}
 use Rattle.set_commands.specs.Sets.{encode_lines, set_lines}
 
@@ -56,6 +62,7 @@ is_own (lines puts status.Damage) = true
 is_own (lines puts status.Spent) = true
 is_own (lines puts status) = false
 is_own (refused (Source fault)) = true
+is_own (refused (Object kind)) = true
 is_own (refused (Input place)) = true
 is_own (refused refusal) = false
 
@@ -68,6 +75,7 @@ abbrev pub files_of_job : Job → List (Option FileWord)
 files_of_job (Run source) = Some source ∷ []
 files_of_job (Decode set residues) = []
 files_of_job (Encode set x) = []
+files_of_job (Exec object input steps) = Some object ∷ (input ∷ [])
 files_of_job (Mean source input set steps) = Some source ∷ (input ∷ [])
 files_of_job (Set set) = []
 
@@ -78,6 +86,7 @@ takes_no_memory None = true
 takes_no_memory (Some (Run source)) = false
 takes_no_memory (Some (Decode set residues)) = true
 takes_no_memory (Some (Encode set x)) = true
+takes_no_memory (Some (Exec object input steps)) = false
 takes_no_memory (Some (Mean source input set steps)) = false
 takes_no_memory (Some (Set set)) = true
 
@@ -95,13 +104,13 @@ abbrev pub last_lines : List (List ℕ)
 last_lines = line (codes "end") ∷ (line (codes "corrected 0 0 0 0 0") ∷ [])
 
 -- what a run of a thin source puts
-abbrev pub run_lines : List ℤ → List (List ℕ)
-run_lines prints = print_lines prints ++ last_lines
+abbrev pub thin_lines : List ℤ → List (List ℕ)
+thin_lines prints = print_lines prints ++ last_lines
 
 -- a thin source runs; any other is refused
 abbrev pub IsRunAnswer : List ℕ → Answer → Type 0
 IsRunAnswer source answer =
-    ((program : Program) × IsThin source program × (answer ≡ lines (run_lines (prints_of program)) status.Ok))
+    ((program : Program) × IsThin source program × (answer ≡ lines (thin_lines (prints_of program)) status.Ok))
     ⊎ (((program : Program) → IsThin source program → ⊥) × (answer ≡ refused (Source unbuilt)))
 
 -- how a run of a source ends, as it is printed
@@ -114,18 +123,47 @@ ending_of spent = Spent
 abbrev pub mean_lines : Limited ⊤ → List (List ℕ)
 mean_lines limited = print_lines limited.prints ++ ending_line (ending_of limited.ending) ∷ []
 
--- a program on an input: refused at the first word of the input that is no whole number, or what it means on its numbers
-abbrev pub IsMeaningAnswer : ℕ → SourceProgram → List ℕ → Answer → Type 0
-IsMeaningAnswer steps program input answer =
+-- an input is refused at its first word that is no whole number, and otherwise answered by its numbers
+abbrev pub IsInputAnswer : List ℕ → (List ℤ → Answer) → Answer → Type 0
+IsInputAnswer input answer_to answer =
     ((place : ℕ) × IsFirstOther (input_words input) place × (answer ≡ refused (Input place)))
-    ⊎ ((numbers : List ℤ) × AreNumbers (input_words input) numbers
-    × (answer ≡ lines (mean_lines (limited steps (meaning program numbers))) (ending_status (ending_of (limited steps (meaning program numbers)).ending))))
+    ⊎ ((numbers : List ℤ) × AreNumbers (input_words input) numbers × (answer ≡ answer_to numbers))
+
+-- what a program means on numbers, within a limit
+abbrev pub meaning_answer : ℕ → SourceProgram → List ℤ → Answer
+meaning_answer steps program numbers =
+    let meant = limited steps (meaning program numbers) in
+    lines (mean_lines meant) (ending_status (ending_of meant.ending))
 
 -- a source is refused by its first fault on the set, and otherwise means something on the input
 abbrev pub IsMeanAnswer : SetName → ℕ → List ℕ → List ℕ → Answer → Type 0
 IsMeanAnswer set steps source input answer =
     ((fault : SourceFault) × IsFirstFault set source fault × (answer ≡ refused (Source fault)))
-    ⊎ ((program : SourceProgram) × IsProgramOf set source program × IsMeaningAnswer steps program input answer)
+    ⊎ ((program : SourceProgram) × IsProgramOf set source program × IsInputAnswer input (meaning_answer steps program) answer)
+
+-- why a job stops whose object has a fault, or found no memory
+abbrev pub stop_of_load : LoadFault → Stop
+stop_of_load (load.Short length) = Refused (Object (kind.Short length))
+stop_of_load load.BadMagic = Refused (Object kind.Magic)
+stop_of_load (load.BadVersion version) = Refused (Object (kind.Version version))
+stop_of_load (load.BadSet set) = Refused (Object (kind.Set set))
+stop_of_load (load.Long surplus) = Refused (Object (kind.Long surplus))
+stop_of_load (load.BadRecord place) = Refused (Object (kind.Record place))
+stop_of_load (load.Unsound fault) = Refused (Object (kind.Unsound fault))
+stop_of_load load.NoMemory = NoMemory
+
+-- what a run of an object's program on numbers prints, in so many instructions at most, where no channel answers wrongly
+abbrev pub run_answer : ℕ → ObjectProgram → List ℤ → Answer
+run_answer steps program numbers =
+    let set = set_of_name program.set in
+    let trace = trace_of empty set program.code program.words steps numbers in
+    lines (run_lines set trace) (run_status trace)
+
+-- an object is refused by its first fault, and otherwise runs on the input
+abbrev pub IsExecAnswer : ℕ → List ℕ → List ℕ → Answer → Type 0
+IsExecAnswer steps object input answer =
+    ((fault : LoadFault) × (refusal : Refusal) × (load_fault object ≡ Some fault) × (stop_of_load fault ≡ Refused refusal) × (answer ≡ refused refusal))
+    ⊎ ((load_fault object ≡ None) × IsInputAnswer input (run_answer steps (program_in object)) answer)
 
 -- the answer of a job to its texts, in the order of its files
 abbrev pub IsDone : Job → List (List ℕ) → Answer → Type 0
@@ -134,6 +172,7 @@ IsDone (Decode set residues) texts answer =
     (verdict : Verdict) × IsVerdict (radius (set_of_name set)) None (set_of_name set) residues verdict
     × (answer ≡ lines (verdict_lines verdict) (verdict_status verdict))
 IsDone (Encode set x) texts answer = answer ≡ lines (encode_lines (set_of_name set) x) status.Ok
+IsDone (Exec object input steps) texts answer = IsExecAnswer steps (text_at texts 0) (text_at texts 1) answer
 IsDone (Mean source input set steps) texts answer = IsMeanAnswer set steps (text_at texts 0) (text_at texts 1) answer
 IsDone (Set set) texts answer = answer ≡ lines (set_lines (set_of_name set)) status.Ok
 

@@ -12,6 +12,8 @@ pub use Rattle.word_readers.specs.Operands
 pub use Rattle.thin_source.specs.ThinTree
 pub use Rattle.thin_source.specs.ThinMeaning
 pub use Rattle.source_reader.specs.Reading
+pub use Rattle.object_bytes.specs.Loading
+pub use Rattle.object_runs.specs.RunText
 pub use Rattle.job_endings.specs.StatusNumber
 pub use Rattle.job_endings.specs.Endings
 pub use Rattle.job_endings.specs.Files

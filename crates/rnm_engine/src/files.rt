@@ -15,8 +15,17 @@ pub fn files_of(job: &Job) -> ArrayVec<Option<FileWord>, MOST_FILES>
     let mut files = ArrayVec::new();
     match job {
         Job::Run { source } => files.push(Some(*source)),
-        Job::Mean { source, input, .. } => {
-            files.push(Some(*source));
+        Job::Exec {
+            object: text,
+            input,
+            ..
+        }
+        | Job::Mean {
+            source: text,
+            input,
+            ..
+        } => {
+            files.push(Some(*text));
             files.push(*input);
         }
         Job::Decode { .. } | Job::Encode { .. } | Job::Set { .. } => {}

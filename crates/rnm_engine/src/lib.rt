@@ -6,6 +6,7 @@
 //! `main` over this call. Its tests stand in `command_tests`.
 #![tactic(auto)]
 
+mod exec;
 mod files;
 mod mean;
 mod run;

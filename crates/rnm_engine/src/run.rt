@@ -2,7 +2,7 @@
 ghost use Rattle.std.specs.Prelude.{◌≡◌, ◌≤◌, MatchResult, length};
 ghost use Rattle.job_endings.specs.Endings.{EndsPut};
 ghost use Rattle.job_endings.specs.Files.{file_limit};
-ghost use Rattle.rnm_engine.specs.Jobs.{Does, IsOwn, IsRunAnswer, last_lines, run_lines};
+ghost use Rattle.rnm_engine.specs.Jobs.{Does, IsOwn, IsRunAnswer, last_lines, thin_lines};
 ghost use Rattle.thin_source.specs.ThinRules.{IsLawful};
 ghost use Rattle.thin_source.specs.ThinMeaning.{prints_of};
 ghost use Rattle.thin_source.specs.ThinView.{program_view};
@@ -37,7 +37,7 @@ fn run_program<K: Sink>(
 ) -> Result<Status, AllocError>
     requires { IsLawful (program_view program.now) }
     ensures { MatchResult result
-        (λ status. EndsPut K.puts K.state sink.old (run_lines (prints_of (program_view program.now))) Status.Ok status sink.new)
+        (λ status. EndsPut K.puts K.state sink.old (thin_lines (prints_of (program_view program.now))) Status.Ok status sink.new)
         (λ error. sink.new ≡ sink.old) }
 {
     let variables = thin_source::start(alloc, program)?;

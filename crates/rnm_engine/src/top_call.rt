@@ -7,6 +7,7 @@ ghost use Rattle.job_endings.specs.Refusals.{IsStopOfWords};
 ghost use Rattle.rnm_engine.specs.Jobs.{Does, IsDone, IsOwn, TakesNone, takes_no_memory};
 ghost use Rattle.rnm_engine.specs.Answer.{IsAnswer, IsAnswered, IsComplete, IsFinished, LeavesSink, files_of_words, words_of};
 
+use crate::exec::exec;
 use crate::files::{files_of, text_at};
 use crate::mean::mean;
 use crate::run::run;
@@ -108,6 +109,9 @@ fn do_job<K: Sink>(
         Job::Run { .. } => run(alloc, text_at(texts, 0), sink),
         Job::Decode { set, residues } => Ok(decode(&Moduli::of(*set), residues, sink)),
         Job::Encode { set, x } => Ok(encode(&Moduli::of(*set), *x, sink)),
+        Job::Exec { steps, .. } => {
+            exec(alloc, text_at(texts, 0), text_at(texts, 1), *steps, sink)
+        }
         Job::Mean { set, steps, .. } => {
             mean(
                 alloc,

@@ -6,5 +6,6 @@ pub use Rattle.moduli_sets.specs.Vector
 pub use Rattle.number_text.specs.Lines
 pub use Rattle.redundant_decoder.specs.Verdict
 pub use Rattle.job_endings.specs.Endings
+pub use Rattle.job_endings.specs.Numbers
 pub mod Sets
 pub mod Decode

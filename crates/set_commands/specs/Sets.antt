@@ -1,14 +1,10 @@
 -- What the commands `encode` and `set` write.
-use Rattle.std.specs.Prelude.{ℕ, ℤ, pos, neg_ℤ, List, [], ◌∷◌, ◌++◌, map, codes}
-use Rattle.std.specs.List.{join_with_byte}
+use Rattle.std.specs.Prelude.{ℕ, ℤ, pos, neg_ℤ, List, [], ◌∷◌, ◌++◌, codes}
 use Rattle.std.specs.Fmt.{decimal, signed_decimal}
 use Rattle.moduli_sets.specs.Set.{ModuliSet, range_bound}
 use Rattle.moduli_sets.specs.Vector.{vector_of}
 use Rattle.number_text.specs.Lines.{line}
-
--- numbers in decimal, one space apart
-abbrev pub numbers_text : List ℕ → List ℕ
-numbers_text numbers = join_with_byte 32 (map decimal numbers)
+use Rattle.job_endings.specs.Numbers.{numbers_text}
 
 -- the residues of an integer
 abbrev pub encode_lines : ModuliSet → ℤ → List (List ℕ)

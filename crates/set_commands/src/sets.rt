@@ -3,10 +3,11 @@ ghost use Rattle.std.specs.Prelude.{◌≡◌, ◌≤◌, ◌++◌, length};
 ghost use Rattle.moduli_sets.specs.Moduli.{set_of};
 ghost use Rattle.moduli_sets.specs.Set.{IsInRange};
 ghost use Rattle.number_text.specs.Lines.{line};
-ghost use Rattle.set_commands.specs.Sets.{encode_lines, information_line, numbers_text, range_line, set_lines};
 ghost use Rattle.job_endings.specs.Endings.{EndsPut};
+ghost use Rattle.job_endings.specs.Numbers.{numbers_text};
+ghost use Rattle.set_commands.specs.Sets.{encode_lines, information_line, range_line, set_lines};
 
-use job_endings::{Status, put_lines};
+use job_endings::{Status, put_lines, with_numbers};
 use moduli_sets::{Moduli, Vector};
 use number_text::Line;
 use outside::Sink;
@@ -69,12 +70,5 @@ fn numbers_line(word: &[u8], numbers: &Vector) -> Line
     requires { length word.now ≤ 16 }
     ensures { result ≡ line (word.now ++ numbers_text numbers.now) }
 {
-    let mut line = Line::of(word);
-    for n in 0..numbers.len() {
-        if n > 0 {
-            line = line.text(b" ");
-        }
-        line = line.count(u64::from(numbers.at(n)));
-    }
-    line.end()
+    with_numbers(Line::of(word), numbers).end()
 }

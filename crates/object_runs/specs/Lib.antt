@@ -1,0 +1,9 @@
+pub use Rattle.outside.specs.Sink
+pub use Rattle.fault_book.specs.Book
+pub use Rattle.machine_table.specs.Objects
+pub use Rattle.machine_table.specs.Integers
+pub use Rattle.shown_run.specs.Trace
+pub use Rattle.residue_machine.specs.Faultless
+pub use Rattle.job_endings.specs.EndingLines
+pub use Rattle.job_endings.specs.Endings
+pub mod RunText

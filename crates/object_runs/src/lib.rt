@@ -1,0 +1,13 @@
+//! Runs of objects: a program on the residue machine, and what is printed of it.
+//!
+//! In come an object, the faulty answers of channels, the numbers of the input, a limit of instructions and a sink; out go
+//! the integers that are printed, the ending and how many columns were corrected in each channel, and a status. The crate
+//! stands on `residue_machine`, over the bank of any set, and on `job_endings`; the commands that run objects stand on it.
+//! Its tests stand in `command_tests`.
+#![tactic(auto)]
+
+mod laws;
+mod running;
+
+pub use laws::runs_as_integers;
+pub use running::run;
