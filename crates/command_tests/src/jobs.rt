@@ -252,9 +252,9 @@ fn objects_run_or_are_refused(rt: HostRuntime) -> Result<(), Fail> {
         assert_eq!(rt; written.as_slice(), printed.as_bytes());
     }
     let words = ["exec", "a.src", "-"];
-    let (status, written) = done(rt.alloc(), &words, &bytes[..95], &NONE)?;
+    let (status, written) = done(rt.alloc(), &words, b"RNMO", &NONE)?;
     assert_eq!(rt; status, Status::ObjectRefused);
-    assert_eq!(rt; written.as_slice(), b"refused object short 95\n".as_slice());
+    assert_eq!(rt; written.as_slice(), b"refused object short 4\n".as_slice());
     let second = Failing {
         fetches: &[],
         puts: &[(1, 2)],
