@@ -76,8 +76,9 @@ fn parts(
     Ok(left)
 }
 
-/// A part of a sum, or of a term.
+/// A part of a sum, or of a term. It is inlined, so that nested expressions take no frames for it.
 #[cycle(expression)]
+#[inline]
 fn part(
     alloc: Global,
     reader: &mut Reader<'_>,
