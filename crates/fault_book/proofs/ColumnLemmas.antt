@@ -36,17 +36,17 @@ fault_at-unnamed book channel number h =
     none_from_test (fault_at book channel number) (contains_key-keys book (channel, number) ∙ no_key channel number (keys book) h)
 
 -- ---- columns
-count_by-cons : (p : ℕ → Bool) (x : ℕ) (xs : List ℕ) → count_by p (x ∷ xs) ≡ cond (p x) 1 0 + count_by p xs
+pub count_by-cons : (p : ℕ → Bool) (x : ℕ) (xs : List ℕ) → count_by p (x ∷ xs) ≡ cond (p x) 1 0 + count_by p xs
 count_by-cons p x xs = sum_by-cons (λ y. cond (p y) 1 0) x xs
 
-count_more : (p : ℕ → Bool) (first n k : ℕ) → n ≤ k → count_by p (range_with_len first n) ≤ count_by p (range_with_len first k)
+pub count_more : (p : ℕ → Bool) (first n k : ℕ) → n ≤ k → count_by p (range_with_len first n) ≤ count_by p (range_with_len first k)
 count_more p first zero k h = omega arith
 count_more p first (suc n) zero h = absurd (omega arith)
 count_more p first (suc n) (suc k) h =
     omega (arith, count_more p (first + 1) n k (omega arith), count_by-cons p first (range_with_len (first + 1) n), count_by-cons p first (range_with_len (first + 1) k))
 
 -- one place where the entries differ has a named channel
-place-le : (named : Bool) (x y : ℕ) → (named ≡ false → x ≡ y) → (if x == y then 0 else 1) ≤ cond named 1 0
+pub place-le : (named : Bool) (x y : ℕ) → (named ≡ false → x ≡ y) → (if x == y then 0 else 1) ≤ cond named 1 0
 place-le named x y agree =
     elim named as (λ b. (b ≡ false → x ≡ y) → (if x == y then 0 else 1) ≤ cond b 1 0) [
       | true ↦ λ _. most (x == y)
@@ -62,7 +62,7 @@ place-le named x y agree =
     equal false e = cc
 
 -- columns that agree in the channels from `first` on that aren't named differ in no more places than are named of these
-distance-le_named : (named : ℕ → Bool) (first : ℕ) (xs ys : List ℕ) → ((i : ℕ) → i < length xs → named (first + i) ≡ false → slice_index xs i ≡ slice_index ys i)
+pub distance-le_named : (named : ℕ → Bool) (first : ℕ) (xs ys : List ℕ) → ((i : ℕ) → i < length xs → named (first + i) ≡ false → slice_index xs i ≡ slice_index ys i)
     → distance xs ys ≤ count_by named (range_with_len first (length xs))
 distance-le_named named first [] ys agree = omega arith
 distance-le_named named first (x ∷ xs) [] agree = omega arith

@@ -5,10 +5,11 @@ use Rattle.std.specs.Map.{keys_of, lookup}
 use Rattle.std.proofs.lemmas.Bool.Decides.{nat_tests}
 use Rattle.std.proofs.lemmas.Bool.{cases_eq}
 use Rattle.std.proofs.lemmas.Grind.{get_or-set_at}
-use Rattle.std.proofs.lemmas.List.{get_or-set_other, get_or-take, length-take-le, map_more, take_more}
-use Rattle.std.proofs.lemmas.List.Elements.{All-append, All-from_get_or, All-from_recursion, All-map, All-weaker, recursion_from_All}
+use Rattle.std.proofs.lemmas.List.{get_or-set_other, get_or-take, length-set, length-take-le, map_more}
+use Rattle.std.proofs.lemmas.List.Elements.{All-from_get_or, All-from_recursion, All-weaker, recursion_from_All}
 use Rattle.indexmap.specs.IndexMap.{IndexMap, insert_entry}
 use Rattle.indexmap.proofs.CallerLemmas.{insert_entry-new}
+use Rattle.fault_book.specs.Invariant.{IsConsistent}
 
 -- whether two keys are one, as the map compares them
 abbrev pub same_answer : ℕ × ℕ → ℕ × ℕ → Bool
@@ -55,18 +56,27 @@ flag_kept named c k h e =
       | inr other ↦ get_or-set_other named c k true false other ∙ e
     ]
 
--- one more entry, and its flag
-pub flags_more : (es : List (ℕ × ℕ × ℕ)) (named more : List Bool) (i : ℕ) (d : ℕ × ℕ × ℕ) → i < length es → (get_or es i d).0 < length named → more ≡ slice_set named (get_or es i d).0 true
-    → All (λ e. slice_index_or named e.0 false ≡ true) (take i es) → All (λ e. slice_index_or more e.0 false ≡ true) (take (i + 1) es)
-flags_more es named more i d lt small set so_far =
-    let e = get_or es i d in
-    let old : ℕ × ℕ × ℕ → Type 0 = λ f. slice_index_or named f.0 false ≡ true in
-    let new : ℕ × ℕ × ℕ → Type 0 = λ f. slice_index_or (slice_set named e.0 true) f.0 false ≡ true in
-    let last : All new (e ∷ []) = All-from_recursion new (e ∷ []) (get_or-set_at named e.0 e.0 true false refl small, tt) in
-    let all : All new (take i es ++ e ∷ []) = All-append new (take i es) (e ∷ []) (All-weaker old new (λ f h. flag_kept named e.0 f.0 small h) (take i es) so_far) last in
-    subst (λ flags. All (λ f. slice_index_or flags f.0 false ≡ true) (take (i + 1) es)) (sym set) (subst (All new) (sym (take_more es i d lt)) all)
+-- what holds of the keys and of the answer that is put in holds of the keys then
+keys-insert_entry : (P : ℕ × ℕ → Type 0) (es : List ((ℕ × ℕ) × ℕ)) (answer : ℕ × ℕ) (value : ℕ) → P answer → AllByRecursion P (keys_of es) → AllByRecursion P (keys_of (insert_entry same_answer es answer value))
+keys-insert_entry P [] answer value here h = (here, tt)
+keys-insert_entry P (e ∷ es) answer value here h = by (same_answer answer e.0) (keys-insert_entry P es answer value here h.1)
+  where
+    by : (b : Bool) → AllByRecursion P (keys_of (insert_entry same_answer es answer value)) → AllByRecursion P (keys_of (cond b ((e.0, value) ∷ es) (e ∷ insert_entry same_answer es answer value)))
+    by true rest = h
+    by false rest = (h.0, rest)
 
--- the keys are of the channels that the list names
-pub flags-entry : (named : List Bool) (es : List (ℕ × ℕ × ℕ)) → All (λ e. slice_index_or named e.0 false ≡ true) es → All (λ k. slice_index_or named k.0 false ≡ true) (keys_of (map entry es))
-flags-entry named es h =
-    All-map (λ k. slice_index_or named k.0 false ≡ true) (λ e. e.0) (map entry es) (All-map (λ e. slice_index_or named e.0.0 false ≡ true) entry es h)
+-- one more entry, and its flag
+pub IsConsistent-insert : {S : Type 0} (made new : IndexMap (ℕ × ℕ) ℕ S) (named flags : List Bool) (channel number value : ℕ) → channel < 12 → new.entries ≡ insert_entry same_answer made.entries (channel, number) value
+    → flags ≡ slice_set named channel true → IsConsistent named (Some made) → IsConsistent flags (Some new)
+IsConsistent-insert made new named flags channel number value small put set before =
+    let is_set : ℕ × ℕ → Type 0 = λ k. slice_index_or (slice_set named channel true) k.0 false ≡ true in
+    let within : channel < length named = omega (arith, before.twelve) in
+    let kept : All is_set (keys_of made.entries) =
+    All-weaker (λ k. slice_index_or named k.0 false ≡ true) is_set (λ k h. flag_kept named channel k.0 within h) (keys_of made.entries) before.flags in
+    let all : AllByRecursion is_set (keys_of (insert_entry same_answer made.entries (channel, number) value)) =
+    keys-insert_entry is_set made.entries (channel, number) value (get_or-set_at named channel channel true false refl within) (recursion_from_All is_set (keys_of made.entries) kept) in
+    let flagged : All is_set (keys_of new.entries) = subst (λ es. All is_set (keys_of es)) (sym put) (All-from_recursion is_set _ all) in
+    record {
+      twelve = ap length set ∙ length-set named channel true ∙ before.twelve;
+      flags = subst (λ ns. All (λ k. slice_index_or ns k.0 false ≡ true) (keys_of new.entries)) (sym set) flagged;
+    }

@@ -1,3 +1,6 @@
 mod BookLemmas
 pub mod ColumnLemmas
 mod EntryLemmas
+mod FaultTextRows
+mod NumberWords
+mod ReadLemmas

@@ -14,9 +14,9 @@ const CHANNELS: u8 = 12;
 #[derive(Debug, Drop)]
 pub struct Faults {
     /// None in the book that `none` makes, which needs no allocator and takes no memory.
-    entries: Option<IndexMap<(u8, u64), u32>>,
+    pub(crate) entries: Option<IndexMap<(u8, u64), u32>>,
     /// For each channel whether it may have an entry, so that the others are never looked up.
-    named: [bool; 12],
+    pub(crate) named: [bool; 12],
 }
 
 impl Model for Faults {

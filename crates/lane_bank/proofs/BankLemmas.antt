@@ -114,7 +114,7 @@ lanes_after_all-more book ops op start lanes after e step =
 
 -- ---- columns
 -- one residue for each modulus
-AreResidues-by_place : (ms rs : List ℕ) → length rs ≡ length ms → ((i : ℕ) → i < length ms → get_or rs i 0 < get_or ms i 0) → AreResidues ms rs
+pub AreResidues-by_place : (ms rs : List ℕ) → length rs ≡ length ms → ((i : ℕ) → i < length ms → get_or rs i 0 < get_or ms i 0) → AreResidues ms rs
 AreResidues-by_place [] [] e below = tt
 AreResidues-by_place [] (r ∷ rs) e below = absurd (omega arith)
 AreResidues-by_place (m ∷ ms) [] e below = absurd (omega arith)
