@@ -1,0 +1,14 @@
+pub use Rattle.fault_book.specs.Book
+pub use Rattle.channel_lane.specs.Lane
+pub use Rattle.channel_lane.specs.Meaning
+pub use Rattle.lane_bank.specs.Bank
+pub use Rattle.machine_table.specs.Control
+pub use Rattle.machine_table.specs.Integers
+pub use Rattle.micro_plan.specs.Acts
+pub use Rattle.micro_plan.specs.Told
+pub use Rattle.shown_run.specs.Decoded
+pub use Rattle.shown_run.specs.Runs
+pub use Rattle.shown_run.specs.Trace
+pub mod Telling
+pub mod FaultRun
+pub mod Moments
