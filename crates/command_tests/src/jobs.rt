@@ -246,6 +246,11 @@ fn objects_run_or_are_refused(rt: HostRuntime) -> Result<(), Fail> {
             Status::InputRefused,
             "refused input 0\n",
         ),
+        (
+            &["exec", "a.src", "-", "--faults=a.src"],
+            Status::PlanRefused,
+            "refused faults 1\n",
+        ),
     ] {
         let (status, written) = done(rt.alloc(), words, &bytes, &NONE)?;
         assert_eq!(rt; status, ended);

@@ -1,6 +1,7 @@
 -- Worked rows: words, and the jobs that they ask for.
-use Rattle.std.specs.Prelude.{◌≡◌, refl, pos, negsuc, [], ◌∷◌, Some, None, codes, map, replicate}
+use Rattle.std.specs.Prelude.{◌≡◌, refl, ℕ, pos, negsuc, [], ◌∷◌, Option, Some, None, codes, map, replicate}
 use Rattle.moduli_sets.specs.declared.set_name.SetName.TheVariants.{Pocket, Desk, Hall}
+use Rattle.word_readers.specs.declared.operands.FileWord.{FileWord}
 use Rattle.word_readers.specs.Operands.{whole_word}
 use Rattle.command_words.specs.declared.job.Job.TheVariants.{Run, Exec, Decode, Encode, Mean, Set}
 use Rattle.command_words.specs.Words.{job_of_words}
@@ -13,8 +14,37 @@ run_row = refl
 exec_rows : map job_of_words (
     (codes "exec" ∷ codes "a.rnm" ∷ codes "-" ∷ [])
     ∷ (codes "exec" ∷ codes "a.rnm" ∷ codes "--steps=7" ∷ codes "b" ∷ [])
-    ∷ []) ≡ Some (Exec (whole_word 1) None 1000000) ∷ Some (Exec (whole_word 1) (Some (whole_word 3)) 7) ∷ []
+    ∷ []) ≡ Some (Exec (whole_word 1) None 1000000 None) ∷ Some (Exec (whole_word 1) (Some (whole_word 3)) 7 None) ∷ []
 exec_rows = refl
+
+-- what stands in word n after `--faults=`
+abbrev faults_in : ℕ → Option FileWord
+faults_in n = Some (record { word = n; skip = 9 })
+
+-- the faults before, between and after the operands
+faults_rows : map job_of_words (
+    (codes "exec" ∷ codes "--faults=f" ∷ codes "a.rnm" ∷ codes "b" ∷ [])
+    ∷ (codes "exec" ∷ codes "a.rnm" ∷ codes "--faults=f" ∷ codes "b" ∷ [])
+    ∷ (codes "exec" ∷ codes "a.rnm" ∷ codes "b" ∷ codes "--faults=f" ∷ [])
+    ∷ []) ≡ Some (Exec (whole_word 2) (Some (whole_word 3)) 1000000 (faults_in 1))
+    ∷ Some (Exec (whole_word 1) (Some (whole_word 3)) 1000000 (faults_in 2))
+    ∷ Some (Exec (whole_word 1) (Some (whole_word 2)) 1000000 (faults_in 3)) ∷ []
+faults_rows = refl
+
+-- and beside a limit
+faults_and_steps : map job_of_words (
+    (codes "exec" ∷ codes "--steps=7" ∷ codes "--faults=f" ∷ codes "a.rnm" ∷ codes "-" ∷ [])
+    ∷ (codes "exec" ∷ codes "--faults=f" ∷ codes "a.rnm" ∷ codes "-" ∷ codes "--steps=7" ∷ [])
+    ∷ []) ≡ Some (Exec (whole_word 3) None 7 (faults_in 2)) ∷ Some (Exec (whole_word 2) None 7 (faults_in 1)) ∷ []
+faults_and_steps = refl
+
+-- a file of faults whose name begins like an option, or holds `=`
+faults_names : map job_of_words (
+    (codes "exec" ∷ codes "a.rnm" ∷ codes "-" ∷ codes "--faults=--f" ∷ [])
+    ∷ (codes "exec" ∷ codes "a.rnm" ∷ codes "-" ∷ codes "--faults=f=g" ∷ [])
+    ∷ (codes "exec" ∷ codes "a.rnm" ∷ codes "-" ∷ codes "--faults==" ∷ [])
+    ∷ []) ≡ replicate 3 (Some (Exec (whole_word 1) None 1000000 (faults_in 3)))
+faults_names = refl
 
 set_row : job_of_words (codes "set" ∷ codes "desk" ∷ []) ≡ Some (Set Desk)
 set_row = refl
@@ -75,6 +105,20 @@ exec_faults : map job_of_words (
     ∷ []) ≡ replicate 8 None
 exec_faults = refl
 
+-- faults that name no file, a name without its value, an option twice, and names that begin alike
+faults_faults : map job_of_words (
+    (codes "exec" ∷ codes "a" ∷ codes "-" ∷ codes "--faults=" ∷ [])
+    ∷ (codes "exec" ∷ codes "a" ∷ codes "-" ∷ codes "--faults=-" ∷ [])
+    ∷ (codes "exec" ∷ codes "a" ∷ codes "-" ∷ codes "--faults" ∷ [])
+    ∷ (codes "exec" ∷ codes "a" ∷ codes "-" ∷ codes "--faults" ∷ codes "f" ∷ [])
+    ∷ (codes "exec" ∷ codes "a" ∷ codes "-" ∷ codes "--faults=a" ∷ codes "--faults=b" ∷ [])
+    ∷ (codes "exec" ∷ codes "a" ∷ codes "-" ∷ codes "--faults=a" ∷ codes "--faults=a" ∷ [])
+    ∷ (codes "exec" ∷ codes "a" ∷ codes "-" ∷ codes "--faultsx=a" ∷ [])
+    ∷ (codes "exec" ∷ codes "a" ∷ codes "-" ∷ codes "--fault=a" ∷ [])
+    ∷ (codes "exec" ∷ codes "a" ∷ codes "--faults=f" ∷ [])
+    ∷ []) ≡ replicate 9 None
+faults_faults = refl
+
 set_faults : map job_of_words (
     (codes "set" ∷ [])
     ∷ (codes "set" ∷ codes "des" ∷ [])
@@ -124,8 +168,8 @@ near_options : map job_of_words (
     ∷ []) ≡ replicate 11 None
 near_options = refl
 
--- operands too few and too many, `-` for a source, an option twice, a limit of 0 and one past the greatest, an option of
--- another command
+-- operands too few and too many, `-` for a source, an option twice, a limit of 0 and one past the greatest, options of
+-- other commands
 mean_faults : map job_of_words (
     (codes "mean" ∷ [])
     ∷ (codes "mean" ∷ codes "a" ∷ [])
@@ -139,6 +183,7 @@ mean_faults : map job_of_words (
     ∷ (codes "mean" ∷ codes "a" ∷ codes "-" ∷ codes "--steps=1000000001" ∷ [])
     ∷ (codes "mean" ∷ codes "a" ∷ codes "-" ∷ codes "--steps=00000000001" ∷ [])
     ∷ (codes "mean" ∷ codes "a" ∷ codes "-" ∷ codes "--journal" ∷ [])
+    ∷ (codes "mean" ∷ codes "a" ∷ codes "-" ∷ codes "--faults=f" ∷ [])
     ∷ (codes "mean" ∷ codes "a" ∷ codes "-" ∷ codes "--" ∷ [])
-    ∷ []) ≡ replicate 13 None
+    ∷ []) ≡ replicate 14 None
 mean_faults = refl

@@ -9,7 +9,8 @@ use Rattle.moduli_sets.specs.Set.{IsInRange}
 use Rattle.moduli_sets.specs.Name.{set_named, set_of_name}
 use Rattle.word_readers.specs.declared.options.OptionKind.TheVariants.{Value}
 use Rattle.word_readers.specs.Numbers.{integer_in_range, residues_in, steps_in}
-use Rattle.word_readers.specs.Operands.{IsFileWord, file_and_input, named_file, operands_of}
+use Rattle.word_readers.specs.declared.operands.FileWord.{FileWord}
+use Rattle.word_readers.specs.Operands.{IsFileWord, file_and_input, file_option, named_file, operands_of}
 use Rattle.word_readers.specs.Options.{OptionTable, has_only_options, option_of, values_of}
 use Rattle.command_words.specs.declared.job.Job.{Job}
 use Rattle.command_words.specs.declared.job.Job.TheVariants.{Run, Exec, Decode, Encode, Mean, Set}
@@ -59,13 +60,18 @@ mean_job words =
 
 -- the options of `exec`
 abbrev pub exec_options : OptionTable
-exec_options = (codes "--steps", Value) ∷ []
+exec_options = (codes "--steps", Value) ∷ ((codes "--faults", Value) ∷ [])
 
--- `exec OBJECT INPUT`, with its option in any order
+-- the file of faults that the option names, where it is there
+abbrev pub faults_option : List (List ℕ) → Option (Option FileWord)
+faults_option words = file_option (codes "--faults") words
+
+-- `exec OBJECT INPUT`, with its options in any order
 abbrev pub exec_job : List (List ℕ) → Option Job
 exec_job words =
     if has_only_options exec_options words
-    then option_and_then (λ files. option_map (Exec files.0 files.1) (steps_option words)) (file_and_input (operands_of words))
+    then option_and_then (λ files. option_and_then (λ steps. option_map (Exec files.0 files.1 steps)
+    (faults_option words)) (steps_option words)) (file_and_input (operands_of words))
     else None
 
 -- the job that words ask for, by their command; none where they are a usage fault
@@ -86,7 +92,8 @@ job_of_words (command ∷ operands) = job_of_command command (command ∷ operan
 -- set, below its modulus; an integer is in the range of its set; an object's instructions are at most 1,000,000,000
 abbrev pub HoldsOf : List (List ℕ) → Job → Type 0
 HoldsOf words (Run source) = IsFileWord words source
-HoldsOf words (Exec object input steps) = IsFileWord words object × IfSome input (IsFileWord words) × (steps ≤ 1000000000)
+HoldsOf words (Exec object input steps faults) =
+    IsFileWord words object × IfSome input (IsFileWord words) × (steps ≤ 1000000000) × IfSome faults (IsFileWord words)
 HoldsOf words (Decode set residues) = AreResidues (set_of_name set).moduli residues
 HoldsOf words (Encode set x) = IsInRange (set_of_name set) x
 HoldsOf words (Mean source input set steps) = IsFileWord words source × IfSome input (IsFileWord words)

@@ -8,11 +8,12 @@ pub enum Job {
     Run {
         source: FileWord,
     },
-    /// Run an object on an input, or on none, in so many instructions at most.
+    /// Run an object on an input, or on none, in so many instructions at most, with the faults of a file, or with none.
     Exec {
         object: FileWord,
         input: Option<FileWord>,
         steps: u64,
+        faults: Option<FileWord>,
     },
     /// Print what a vector stands for. It has one residue for each channel, below its modulus.
     Decode {

@@ -4,15 +4,18 @@ ghost use Rattle.command_words.specs.Words.{HoldsOf, decode_job, encode_job, exe
 use crate::Job;
 use moduli_sets::{Moduli, SetName};
 use word_readers::{
-    OptionKind, OptionRow, file_and_input, has_only_options, integer_in_range, named_file,
-    option_value, residues_in, steps_in,
+    OptionKind, OptionRow, file_and_input, file_option, has_only_options, integer_in_range,
+    named_file, option_value, residues_in, steps_in,
 };
 
 /// The options of `mean`.
 const MEAN_OPTIONS: [OptionRow; 2] = [("--set", OptionKind::Value), ("--steps", OptionKind::Value)];
 
 /// The options of `exec`.
-const EXEC_OPTIONS: [OptionRow; 1] = [("--steps", OptionKind::Value)];
+const EXEC_OPTIONS: [OptionRow; 2] = [
+    ("--steps", OptionKind::Value),
+    ("--faults", OptionKind::Value),
+];
 
 /// The limit of steps where the words say none.
 const DEFAULT_STEPS: u64 = 1_000_000;
@@ -49,7 +52,7 @@ fn run_job(words: &[String]) -> Option<Job>
     Some(Job::Run { source })
 }
 
-/// `exec OBJECT INPUT`, with the option `--steps=N` before, between or after them.
+/// `exec OBJECT INPUT`, with the options `--steps=N` and `--faults=FILE` before, between or after them.
 fn exec_job(words: &[String]) -> Option<Job>
     ensures value { result ≡ exec_job (map string_bytes words.now) }
     ensures holds { IfSome result (HoldsOf (map string_bytes words.now)) }
@@ -59,10 +62,12 @@ fn exec_job(words: &[String]) -> Option<Job>
     }
     let (object, input) = file_and_input(words)?;
     let steps = steps_option(words)?;
+    let faults = file_option(words, "--faults")?;
     Some(Job::Exec {
         object,
         input,
         steps,
+        faults,
     })
 }
 

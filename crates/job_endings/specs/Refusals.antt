@@ -13,7 +13,7 @@ use Rattle.job_endings.specs.declared.status.Status.TheVariants as status
 use Rattle.job_endings.specs.declared.object_kind.ObjectKind.{ObjectKind}
 use Rattle.job_endings.specs.declared.object_kind.ObjectKind.TheVariants.{Short, Magic, Version, Set, Long, Record, Unsound}
 use Rattle.job_endings.specs.declared.refusal.Refusal.{Refusal}
-use Rattle.job_endings.specs.declared.refusal.Refusal.TheVariants.{Usage, Unread, TooLong, Source, Object, Input}
+use Rattle.job_endings.specs.declared.refusal.Refusal.TheVariants.{Usage, Unread, TooLong, Source, Object, Input, Faults}
 use Rattle.job_endings.specs.declared.refusal.Stop.{Stop}
 use Rattle.job_endings.specs.declared.refusal.Stop.TheVariants.{Refused, NoMemory}
 
@@ -68,6 +68,7 @@ refusal_line words (TooLong file) = line (codes "too long " ++ file_name words f
 refusal_line words (Source fault) = line (source_line fault)
 refusal_line words (Object kind) = line (object_line kind)
 refusal_line words (Input place) = line (codes "refused input " ++ decimal place)
+refusal_line words (Faults n) = line (codes "refused faults " ++ decimal n)
 
 abbrev pub refusal_status : Refusal → Status
 refusal_status Usage = status.Usage
@@ -76,6 +77,7 @@ refusal_status (TooLong file) = status.TooLong
 refusal_status (Source fault) = status.SourceRefused
 refusal_status (Object kind) = status.ObjectRefused
 refusal_status (Input place) = status.InputRefused
+refusal_status (Faults n) = status.PlanRefused
 
 -- whether the line of a refusal has the name of a file
 abbrev pub names_file : Refusal → Bool
@@ -85,6 +87,7 @@ names_file (TooLong file) = true
 names_file (Source fault) = false
 names_file (Object kind) = false
 names_file (Input place) = false
+names_file (Faults n) = false
 
 -- the file that a refusal names is named by the words
 abbrev pub IsOfWords : List (List ℕ) → Refusal → Type 0
@@ -94,6 +97,7 @@ IsOfWords words (TooLong file) = IsFileWord words file
 IsOfWords words (Source fault) = Unit {0}
 IsOfWords words (Object kind) = Unit {0}
 IsOfWords words (Input place) = Unit {0}
+IsOfWords words (Faults n) = Unit {0}
 
 abbrev pub IsStopOfWords : List (List ℕ) → Stop → Type 0
 IsStopOfWords words (Refused refusal) = IsOfWords words refusal

@@ -29,6 +29,8 @@ pub enum Refusal {
     Object(ObjectKind),
     /// The first word of the input that is no whole number stands at this place, counted in bytes from 0.
     Input(usize),
+    /// The first line of the faults that breaks a rule has this number, counted from 1.
+    Faults(u32),
 }
 
 /// Why a job stops before anything is put.
@@ -75,6 +77,7 @@ pub fn put_refusal<K: Sink>(
         Refusal::Source(fault) => put_lines(sink, &[source_line(fault)], Status::SourceRefused),
         Refusal::Object(kind) => put_lines(sink, &[object_line(kind)], Status::ObjectRefused),
         Refusal::Input(place) => put_lines(sink, &[input_line(place)], Status::InputRefused),
+        Refusal::Faults(n) => put_lines(sink, &[faults_line(n)], Status::PlanRefused),
     }
 }
 
@@ -139,4 +142,11 @@ fn input_line(place: usize) -> Line
     ensures { result ≡ line (codes "refused input " ++ decimal place) }
 {
     Line::of(b"refused input ").count(place as u64).end()
+}
+
+/// The line `refused faults LINE`.
+fn faults_line(n: u32) -> Line
+    ensures { result ≡ line (codes "refused faults " ++ decimal n) }
+{
+    Line::of(b"refused faults ").count(u64::from(n)).end()
 }

@@ -1,5 +1,5 @@
 -- From what a machine leaves to what is printed of its run.
-use Rattle.std.proofs.Common.{◌≡◌, ℕ, zero, suc, ◌+◌, ◌<◌, ◌≤◌, ℤ, List, [], ◌∷◌, ◌++◌, map, length, take, replicate, get_or, None, Some, refl, sym, ap, ◌∙◌, subst, arith}
+use Rattle.std.proofs.Common.{◌≡◌, Bool, cond, count_by, false, ℕ, zero, suc, ◌+◌, ◌<◌, ◌≤◌, ℤ, List, [], ◌∷◌, ◌++◌, map, length, take, replicate, get_or, None, Some, refl, sym, ap, ◌∙◌, subst, arith}
 use Rattle.std.specs.List.{range_with_len}
 use Rattle.std.specs.Fmt.{signed_decimal}
 use Rattle.std.proofs.lemmas.List.{append_assoc, ext_get_or, get_or-replicate, length-replicate, map-append, take_all}
@@ -8,13 +8,14 @@ use Rattle.number_text.specs.Lines.{line, print_lines}
 use Rattle.outside.specs.Sink.{SinkState, BrokeOff}
 use Rattle.moduli_sets.specs.Set.{ModuliSet, radius}
 use Rattle.channel_alu.specs.declared.operation.MicroOp.{MicroOp}
-use Rattle.fault_book.specs.Book.{Book}
+use Rattle.fault_book.specs.Book.{Book, is_faulty}
+use Rattle.fault_book.proofs.ColumnLemmas.{count_by-cons}
 use Rattle.channel_lane.specs.Lane.{LaneState}
 use Rattle.lane_bank.specs.Bank.{lanes_after, lanes_at_start}
 use Rattle.channel_alu.specs.declared.operation.MicroOp.TheVariants.{Show}
 use Rattle.machine_table.specs.declared.instr.Instr.{Instr}
 use Rattle.machine_table.specs.Control.{Control, control_at_start, halts, traps}
-use Rattle.machine_table.specs.Integers.{IntegerRun, instruction_at, printed_by}
+use Rattle.machine_table.specs.Integers.{IntegerRun, instruction_at}
 use Rattle.machine_table.specs.Integers as integers
 use Rattle.micro_plan.specs.Acts.{acts_of, acts_of_run}
 use Rattle.channel_scheduler.specs.declared.rack.Rack.{Ghosts as RackGhosts}
@@ -26,7 +27,8 @@ use Rattle.shown_run.proofs.Joining.{shown-then}
 use Rattle.residue_machine.specs.declared.ending.Ending.{Ending as MachineEnding}
 use Rattle.residue_machine.specs.declared.ending.Ending.TheVariants as machine
 use Rattle.residue_machine.specs.Bench.{Bench, Performed}
-use Rattle.residue_machine.specs.Faultless.{RunsTrue}
+use Rattle.fault_run.specs.Moments.{RunsAs}
+use Rattle.fault_run.specs.Telling.{named_channels}
 use Rattle.residue_machine.specs.Machine.{MachineState, CameOut, FailedAfter, IsEnding, RunsOut, machine_at_start, trace_from}
 use Rattle.job_endings.specs.declared.status.Status.{Status}
 use Rattle.job_endings.specs.declared.status.Status.TheVariants.{Unwritten}
@@ -63,22 +65,34 @@ counted set trace counts long each =
     ext_get_or 0 counts (map f (range_with_len 0 n)) (long ∙ sym (length-map-range_with_len f 0 n))
     (λ i inside. each i (omega (arith, long, inside)) ∙ sym (get_or-map-range_with_len f 0 n i i 0 (omega (arith, long, inside)) (omega arith)))
 
-none_counted : (set : ModuliSet) (trace : Trace) → ((i : ℕ) → corrections_of None set trace i ≡ 0) → replicate (length set.moduli) 0 ≡ counts_of set trace
+pub none_counted : (set : ModuliSet) (trace : Trace) → ((i : ℕ) → corrections_of None set trace i ≡ 0) → counts_of set trace ≡ replicate (length set.moduli) 0
 none_counted set trace none =
     let n = length set.moduli in
-    counted set trace (replicate n 0) (length-replicate n 0) (λ i inside. get_or-replicate n i 0 0 inside ∙ sym (none i))
+    sym (counted set trace (replicate n 0) (length-replicate n 0) (λ i inside. get_or-replicate n i 0 0 inside ∙ sym (none i)))
 
-pub tells : (set : ModuliSet) (trace : Trace) (run : IntegerRun) → RunsTrue set trace run → TellsIntegers set trace run
+pub tells : (set : ModuliSet) (trace : Trace) (run : IntegerRun) → RunsAs trace run → TellsIntegers set trace run
 tells set trace run h =
     let last = told_ending (ending_of 0 trace) in
     record {
       ending = last;
       told = told-integers trace run 0 h.ending;
-      lines =
-          ap (λ prints. print_lines prints ++ (ending_line last ∷ (corrected_line (counts_of set trace) ∷ []))) h.prints
-          ∙ ap (λ counts. print_lines (printed_by run) ++ (ending_line last ∷ (corrected_line counts ∷ []))) (sym (none_counted set trace h.corrections));
+      lines = ap (λ prints. print_lines prints ++ (ending_line last ∷ (corrected_line (counts_of set trace) ∷ []))) h.prints;
       status = refl;
     }
+
+-- where no channel is named, no more are than any number
+zero_more : (c : ℕ) → c ≡ 0 → 0 + c ≡ 0
+zero_more c none = omega (arith, none)
+
+unnamed : (p : ℕ → Bool) (xs : List ℕ) → ((x : ℕ) → p x ≡ false) → count_by p xs ≡ 0
+unnamed p [] none = refl
+unnamed p (x ∷ xs) none =
+    count_by-cons p x xs ∙ ap (λ (t : Bool). cond t 1 0 + count_by p xs) (none x) ∙ zero_more (count_by p xs) (unnamed p xs none)
+
+pub few_named : (book : Book) (n : ℕ) → ((channel : ℕ) → is_faulty book channel ≡ false) → named_channels None book ≤ n
+few_named book n none =
+    let zero_named = unnamed (is_faulty book) (range_with_len 0 12) none in
+    omega (arith, zero_named)
 
 -- ---- prints
 -- A trace, and then others: where each of these prints what another prints and more, so does the whole.

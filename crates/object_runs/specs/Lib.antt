@@ -3,7 +3,10 @@ pub use Rattle.fault_book.specs.Book
 pub use Rattle.machine_table.specs.Objects
 pub use Rattle.machine_table.specs.Integers
 pub use Rattle.shown_run.specs.Trace
-pub use Rattle.residue_machine.specs.Faultless
+pub use Rattle.fault_run.specs.Telling
+pub use Rattle.fault_run.specs.FaultRun
+pub use Rattle.fault_run.specs.Moments
+pub use Rattle.residue_machine.specs.Machine
 pub use Rattle.job_endings.specs.EndingLines
 pub use Rattle.job_endings.specs.Endings
 pub mod RunText

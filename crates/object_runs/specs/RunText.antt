@@ -1,5 +1,5 @@
 -- What a run of an object does in the channels, and what is printed of it.
-use Rattle.std.specs.Prelude.{◌≡◌, ℕ, ℤ, List, [], ◌∷◌, ◌++◌, map, length, replicate, Option, Some, None}
+use Rattle.std.specs.Prelude.{◌≡◌, ℕ, ℤ, List, [], ◌∷◌, ◌++◌, map, length, Option, Some, None}
 use Rattle.std.specs.List.{range_with_len}
 use Rattle.moduli_sets.specs.Set.{ModuliSet, radius}
 use Rattle.fault_book.specs.Book.{Book}
@@ -59,10 +59,9 @@ told_of_integers (integers.trap kind line) = Some (Trap kind line)
 told_of_integers integers.out_of_range = None
 told_of_integers integers.spent = Some Spent
 
--- what is printed of a trace is what the integer machine prints, its ending, and 0 for each channel
+-- what is printed of a trace is what the integer machine prints, its ending, and how many columns were corrected
 pub record TellsIntegers (set : ModuliSet) (trace : Trace) (run : IntegerRun) : Type 0 where
   pub ending : Ending
   pub told : told_of_integers (integers.ending_of run) ≡ Some ending
-  pub lines : run_lines set trace
-      ≡ print_lines (printed_by run) ++ (ending_line ending ∷ (corrected_line (replicate (length set.moduli) 0) ∷ []))
+  pub lines : run_lines set trace ≡ print_lines (printed_by run) ++ (ending_line ending ∷ (corrected_line (counts_of set trace) ∷ []))
   pub status : run_status trace ≡ ending_status ending

@@ -1,6 +1,5 @@
 pub mod ActLemmas
 pub mod BenchLemmas
-pub mod FaultlessLemmas
 pub mod OperandLemmas
 pub mod PutLemmas
 pub mod Rows

@@ -12,7 +12,6 @@ pub use Rattle.shown_run.specs.Runs
 pub use Rattle.outside.specs.Sink
 pub use Rattle.number_text.specs.Lines
 pub mod Bench
-pub mod Faultless
 pub mod Machine
 pub mod Outcomes
 pub mod Places

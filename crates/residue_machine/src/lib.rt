@@ -11,7 +11,6 @@ mod ending;
 mod following;
 mod instructions;
 mod interval;
-mod laws;
 mod machine;
 mod outcome;
 mod performing;
@@ -19,5 +18,4 @@ mod position;
 mod repeating;
 
 pub use ending::{Ending, Stepped};
-pub use laws::{machines_without_faults, runs_without_faults};
 pub use machine::Machine;

@@ -13,7 +13,7 @@ use Rattle.job_endings.specs.declared.status.Status.TheVariants.{Unwritten}
 use Rattle.job_endings.specs.EndingLines.{ending_line, ending_status}
 use Rattle.job_endings.specs.Endings.{EndsPut}
 use Rattle.job_endings.proofs.EndingLemmas.{puts_after, fails_before}
-use Rattle.rnm_engine.specs.Jobs.{lines, is_own, ending_of, mean_lines, meaning_answer, IsInputAnswer, IsOwn, Does}
+use Rattle.rnm_engine.specs.Jobs.{lines, is_own, ending_of, mean_lines, IsInputAnswer, IsMeaningAnswer, IsOwn, Does}
 
 own_ending : (pieces : List (List ℕ)) (ending : Ending ⊤) → is_own (lines pieces (ending_status (ending_of ending))) ≡ true
 own_ending pieces (returned value after left) = refl
@@ -28,7 +28,7 @@ module _ {K : Type 0} (puts : K → List ℕ → K → Type 0) (state : K → Si
   -- all was put that it prints, and then how it ended
   pub ended : (ending : Ending ⊤) (mid : K) → WroteAll puts state old (print_lines meant.prints) mid → meant.ending ≡ ending
       → (result : Status) (new : K) → EndsPut puts state mid (ending_line (ending_of ending) ∷ []) (ending_status (ending_of ending)) result new
-      → Does puts state old (IsOwn (IsInputAnswer input (meaning_answer steps program))) (Ok result) new
+      → Does puts state old (IsOwn (IsInputAnswer input (IsMeaningAnswer steps program))) (Ok result) new
   ended ending mid wrote is result new ends =
       let last = subst (λ (e : Ending ⊤). EndsPut puts state mid (ending_line (ending_of e) ∷ []) (ending_status (ending_of e)) result new) (sym is) ends in (
         mean_lines meant,
@@ -39,7 +39,7 @@ module _ {K : Type 0} (puts : K → List ℕ → K → Type 0) (state : K → Si
 
   -- a put failed before that
   pub broke_off : (new : K) → PutsPieces puts state old (print_lines meant.prints) Failed new
-      → Does puts state old (IsOwn (IsInputAnswer input (meaning_answer steps program))) (Ok Unwritten) new
+      → Does puts state old (IsOwn (IsInputAnswer input (IsMeaningAnswer steps program))) (Ok Unwritten) new
   broke_off new broke = (
     mean_lines meant,
     ending_status (ending_of meant.ending),

@@ -1,6 +1,6 @@
 -- What a job does once its files are there: a row a command in each table.
-use Rattle.std.specs.Prelude.{◌≡◌, ◌≢◌, ℕ, ℤ, ◌⊎◌, Bool, true, false, List, [], ◌∷◌, ◌++◌, Option, Some, None, Result, Ok, Err, slice_index_or, codes, ⊤}
-use Rattle.std.specs.FinMap.{empty}
+use Rattle.std.specs.Prelude.{◌≡◌, ◌≢◌, ℕ, ℤ, ◌⊎◌, Bool, true, false, List, [], ◌∷◌, ◌++◌, length, Option, Some, None, Result, Ok, Err, slice_index_or, codes, ⊤}
+use Rattle.std.specs.FinMap.{from_entries}
 use Rattle.number_text.specs.Lines.{line, print_lines}
 use Rattle.outside.specs.Sink.{SinkState}
 use Rattle.thin_source.specs.ThinTree.{Program}
@@ -23,7 +23,7 @@ use Rattle.redundant_decoder.specs.Verdict.{IsVerdict}
 use Rattle.job_endings.specs.declared.status.Status.{Status}
 use Rattle.job_endings.specs.declared.status.Status.TheVariants as status
 use Rattle.job_endings.specs.declared.refusal.Refusal.{Refusal}
-use Rattle.job_endings.specs.declared.refusal.Refusal.TheVariants.{Source, Object, Input}
+use Rattle.job_endings.specs.declared.refusal.Refusal.TheVariants.{Source, Object, Input, Faults}
 use Rattle.job_endings.specs.declared.object_kind.ObjectKind.TheVariants as kind
 use Rattle.job_endings.specs.declared.refusal.Stop.{Stop}
 use Rattle.job_endings.specs.declared.refusal.Stop.TheVariants.{Refused, NoMemory}
@@ -35,6 +35,10 @@ use Rattle.job_endings.specs.Refusals.{names_file, refusal_line, refusal_status}
 use Rattle.object_bytes.specs.declared.fault.LoadFault.{LoadFault}
 use Rattle.object_bytes.specs.declared.fault.LoadFault.TheVariants as load
 use Rattle.object_bytes.specs.Loading.{Program as ObjectProgram, load_fault, program_in}
+use Rattle.fault_book.specs.Book.{Book}
+use Rattle.fault_book.specs.FaultText.{book_faults, entries_of}
+use Rattle.fault_book.specs.declared.reading.BookFault.{BookFault}
+use Rattle.fault_book.specs.declared.reading.BookFault.TheVariants as book
 use Rattle.object_runs.specs.RunText.{run_lines, run_status, trace_of}
 use Rattle.set_commands.specs.Decode.{verdict_lines, verdict_status}
 use Rattle.set_commands.specs.Sets.{encode_lines, set_lines}
@@ -64,6 +68,7 @@ is_own (lines puts status) = false
 is_own (refused (Source fault)) = true
 is_own (refused (Object kind)) = true
 is_own (refused (Input place)) = true
+is_own (refused (Faults n)) = true
 is_own (refused refusal) = false
 
 abbrev pub IsOwn : (Answer → Type 0) → Answer → Type 0
@@ -75,7 +80,7 @@ abbrev pub files_of_job : Job → List (Option FileWord)
 files_of_job (Run source) = Some source ∷ []
 files_of_job (Decode set residues) = []
 files_of_job (Encode set x) = []
-files_of_job (Exec object input steps) = Some object ∷ (input ∷ [])
+files_of_job (Exec object input steps faults) = Some object ∷ (input ∷ (faults ∷ []))
 files_of_job (Mean source input set steps) = Some source ∷ (input ∷ [])
 files_of_job (Set set) = []
 
@@ -86,7 +91,7 @@ takes_no_memory None = true
 takes_no_memory (Some (Run source)) = false
 takes_no_memory (Some (Decode set residues)) = true
 takes_no_memory (Some (Encode set x)) = true
-takes_no_memory (Some (Exec object input steps)) = false
+takes_no_memory (Some (Exec object input steps faults)) = false
 takes_no_memory (Some (Mean source input set steps)) = false
 takes_no_memory (Some (Set set)) = true
 
@@ -124,22 +129,22 @@ abbrev pub mean_lines : Limited ⊤ → List (List ℕ)
 mean_lines limited = print_lines limited.prints ++ ending_line (ending_of limited.ending) ∷ []
 
 -- an input is refused at its first word that is no whole number, and otherwise answered by its numbers
-abbrev pub IsInputAnswer : List ℕ → (List ℤ → Answer) → Answer → Type 0
-IsInputAnswer input answer_to answer =
+abbrev pub IsInputAnswer : List ℕ → (List ℤ → Answer → Type 0) → Answer → Type 0
+IsInputAnswer input Is answer =
     ((place : ℕ) × IsFirstOther (input_words input) place × (answer ≡ refused (Input place)))
-    ⊎ ((numbers : List ℤ) × AreNumbers (input_words input) numbers × (answer ≡ answer_to numbers))
+    ⊎ ((numbers : List ℤ) × AreNumbers (input_words input) numbers × Is numbers answer)
 
 -- what a program means on numbers, within a limit
-abbrev pub meaning_answer : ℕ → SourceProgram → List ℤ → Answer
-meaning_answer steps program numbers =
+abbrev pub IsMeaningAnswer : ℕ → SourceProgram → List ℤ → Answer → Type 0
+IsMeaningAnswer steps program numbers answer =
     let meant = limited steps (meaning program numbers) in
-    lines (mean_lines meant) (ending_status (ending_of meant.ending))
+    answer ≡ lines (mean_lines meant) (ending_status (ending_of meant.ending))
 
 -- a source is refused by its first fault on the set, and otherwise means something on the input
 abbrev pub IsMeanAnswer : SetName → ℕ → List ℕ → List ℕ → Answer → Type 0
 IsMeanAnswer set steps source input answer =
     ((fault : SourceFault) × IsFirstFault set source fault × (answer ≡ refused (Source fault)))
-    ⊎ ((program : SourceProgram) × IsProgramOf set source program × IsInputAnswer input (meaning_answer steps program) answer)
+    ⊎ ((program : SourceProgram) × IsProgramOf set source program × IsInputAnswer input (IsMeaningAnswer steps program) answer)
 
 -- why a job stops whose object has a fault, or found no memory
 abbrev pub stop_of_load : LoadFault → Stop
@@ -152,18 +157,33 @@ stop_of_load (load.BadRecord place) = Refused (Object (kind.Record place))
 stop_of_load (load.Unsound fault) = Refused (Object (kind.Unsound fault))
 stop_of_load load.NoMemory = NoMemory
 
--- what a run of an object's program on numbers prints, in so many instructions at most, where no channel answers wrongly
-abbrev pub run_answer : ℕ → ObjectProgram → List ℤ → Answer
-run_answer steps program numbers =
+-- what a run of an object's program on numbers prints, in so many instructions at most, with the faults of a book
+abbrev pub run_answer : ℕ → ObjectProgram → List ℤ → Book → Answer
+run_answer steps program numbers book =
     let set = set_of_name program.set in
-    let trace = trace_of empty set program.code program.words steps numbers in
+    let trace = trace_of book set program.code program.words steps numbers in
     lines (run_lines set trace) (run_status trace)
 
+-- why a job stops whose faults are refused, or found no memory
+abbrev pub stop_of_book : BookFault → Stop
+stop_of_book (book.BadLine n) = Refused (Faults n)
+stop_of_book (book.UnknownChannel n) = Refused (Faults n)
+stop_of_book (book.Twice n) = Refused (Faults n)
+stop_of_book book.NoMemory = NoMemory
+
+-- faults are refused by the first fault of their text, and otherwise the program runs with them
+abbrev pub IsProgramAnswer : ℕ → ObjectProgram → List ℕ → List ℤ → Answer → Type 0
+IsProgramAnswer steps program faults numbers answer =
+    let refusals = book_faults (length (set_of_name program.set).moduli) faults in
+    ((fault : BookFault) × (more : List BookFault) × (refusal : Refusal) × (refusals ≡ fault ∷ more)
+    × (stop_of_book fault ≡ Refused refusal) × (answer ≡ refused refusal))
+    ⊎ ((refusals ≡ []) × (answer ≡ run_answer steps program numbers (from_entries (entries_of faults))))
+
 -- an object is refused by its first fault, and otherwise runs on the input
-abbrev pub IsExecAnswer : ℕ → List ℕ → List ℕ → Answer → Type 0
-IsExecAnswer steps object input answer =
+abbrev pub IsExecAnswer : ℕ → List ℕ → List ℕ → List ℕ → Answer → Type 0
+IsExecAnswer steps object input faults answer =
     ((fault : LoadFault) × (refusal : Refusal) × (load_fault object ≡ Some fault) × (stop_of_load fault ≡ Refused refusal) × (answer ≡ refused refusal))
-    ⊎ ((load_fault object ≡ None) × IsInputAnswer input (run_answer steps (program_in object)) answer)
+    ⊎ ((load_fault object ≡ None) × IsInputAnswer input (IsProgramAnswer steps (program_in object) faults) answer)
 
 -- the answer of a job to its texts, in the order of its files
 abbrev pub IsDone : Job → List (List ℕ) → Answer → Type 0
@@ -172,7 +192,8 @@ IsDone (Decode set residues) texts answer =
     (verdict : Verdict) × IsVerdict (radius (set_of_name set)) None (set_of_name set) residues verdict
     × (answer ≡ lines (verdict_lines verdict) (verdict_status verdict))
 IsDone (Encode set x) texts answer = answer ≡ lines (encode_lines (set_of_name set) x) status.Ok
-IsDone (Exec object input steps) texts answer = IsExecAnswer steps (text_at texts 0) (text_at texts 1) answer
+IsDone (Exec object input steps faults) texts answer =
+    IsExecAnswer steps (text_at texts 0) (text_at texts 1) (text_at texts 2) answer
 IsDone (Mean source input set steps) texts answer = IsMeanAnswer set steps (text_at texts 0) (text_at texts 1) answer
 IsDone (Set set) texts answer = answer ≡ lines (set_lines (set_of_name set)) status.Ok
 

@@ -16,16 +16,17 @@ pub fn files_of(job: &Job) -> ArrayVec<Option<FileWord>, MOST_FILES>
     match job {
         Job::Run { source } => files.push(Some(*source)),
         Job::Exec {
-            object: text,
+            object,
             input,
-            ..
-        }
-        | Job::Mean {
-            source: text,
-            input,
+            faults,
             ..
         } => {
-            files.push(Some(*text));
+            files.push(Some(*object));
+            files.push(*input);
+            files.push(*faults);
+        }
+        Job::Mean { source, input, .. } => {
+            files.push(Some(*source));
             files.push(*input);
         }
         Job::Decode { .. } | Job::Encode { .. } | Job::Set { .. } => {}

@@ -2,7 +2,7 @@
 ghost use Rattle.std.specs.Prelude.{◌≡◌, ◌≤◌, ℤ, List, length};
 ghost use Rattle.number_text.specs.Input.{AreNumbers, input_words};
 ghost use Rattle.source_reader.specs.Reading.{IsProgramOf, text_limit};
-ghost use Rattle.rnm_engine.specs.Jobs.{Does, IsInputAnswer, IsMeanAnswer, IsOwn, meaning_answer};
+ghost use Rattle.rnm_engine.specs.Jobs.{Does, IsInputAnswer, IsMeaningAnswer, IsMeanAnswer, IsOwn};
 
 use job_endings::{Ending, Refusal, Status, Stop, put_lines};
 use moduli_sets::SetName;
@@ -41,7 +41,7 @@ fn mean_on<K: Sink>(
     steps: u64,
     sink: &mut K,
 ) -> Result<Status, Stop>
-    ensures { Does K.puts K.state sink.old (IsOwn (IsInputAnswer input.now (meaning_answer steps ranged.now.checked.program))) result sink.new }
+    ensures { Does K.puts K.state sink.old (IsOwn (IsInputAnswer input.now (IsMeaningAnswer steps ranged.now.checked.program))) result sink.new }
 {
     match read_numbers(alloc, input) {
         Ok(numbers) => evaluate(alloc, ranged, input, &numbers, steps, sink),
@@ -60,7 +60,7 @@ fn evaluate<K: Sink>(
     sink: &mut K,
 ) -> Result<Status, Stop>
     requires { AreNumbers (input_words input.now) numbers.now.items }
-    ensures { Does K.puts K.state sink.old (IsOwn (IsInputAnswer input.now (meaning_answer steps ranged.now.checked.program))) result sink.new }
+    ensures { Does K.puts K.state sink.old (IsOwn (IsInputAnswer input.now (IsMeaningAnswer steps ranged.now.checked.program))) result sink.new }
 {
     let ending = match source_meaning::mean(alloc, ranged, numbers.as_slice(), steps, sink) {
         MeanEnd::End => Ending::End,

@@ -110,7 +110,14 @@ fn do_job<K: Sink>(
         Job::Decode { set, residues } => Ok(decode(&Moduli::of(*set), residues, sink)),
         Job::Encode { set, x } => Ok(encode(&Moduli::of(*set), *x, sink)),
         Job::Exec { steps, .. } => {
-            exec(alloc, text_at(texts, 0), text_at(texts, 1), *steps, sink)
+            exec(
+                alloc,
+                text_at(texts, 0),
+                text_at(texts, 1),
+                text_at(texts, 2),
+                *steps,
+                sink,
+            )
         }
         Job::Mean { set, steps, .. } => {
             mean(

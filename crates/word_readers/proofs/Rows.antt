@@ -3,7 +3,7 @@ use Rattle.std.specs.Prelude.{◌≡◌, refl, true, false, pos, negsuc, [], ◌
 use Rattle.moduli_sets.specs.declared.set_name.SetName.TheVariants.{Pocket}
 use Rattle.word_readers.specs.declared.options.OptionKind.TheVariants.{Value, Flag}
 use Rattle.word_readers.specs.Numbers.{integer_in_range, residue_in, residues_in, steps_in}
-use Rattle.word_readers.specs.Operands.{file_and_input, file_name, named_file, operands_of, whole_word}
+use Rattle.word_readers.specs.Operands.{file_and_input, file_name, file_option, named_file, operands_of, value_word, values_from, whole_word}
 use Rattle.word_readers.specs.Options.{OptionTable, flag_of, has_only_options, is_word_of, option_of, value_in, values_of}
 
 -- ---- operands
@@ -30,10 +30,42 @@ named_rows : map named_file ((1, codes "-a") ∷ (1, []) ∷ (1, codes "-") ∷ 
     ≡ Some (whole_word 1) ∷ None ∷ None ∷ None ∷ []
 named_rows = refl
 
--- the name after `--faults=`, and that of a whole word
-name_rows : map (file_name (codes "run" ∷ codes "--faults=f.txt" ∷ codes "a" ∷ [])) (record { word = 1; skip = 9 } ∷ whole_word 2 ∷ [])
-    ≡ codes "f.txt" ∷ codes "a" ∷ []
+-- the name after `--faults=`, one with `=` in it, and that of a whole word
+name_rows : map (file_name (codes "run" ∷ codes "--faults=f.txt" ∷ codes "--faults==f=" ∷ codes "a" ∷ []))
+    (record { word = 1; skip = 9 } ∷ value_word (codes "--faults") 2 ∷ whole_word 3 ∷ [])
+    ≡ codes "f.txt" ∷ codes "=f=" ∷ codes "a" ∷ []
 name_rows = refl
+
+-- ---- files of options
+-- each value with the number of its word; the command gives none, and neither does an operand or another option
+numbered_rows : map (values_from (codes "--faults") 1) (
+    (codes "exec" ∷ codes "a" ∷ codes "--faults=f" ∷ codes "--faults=" ∷ [])
+    ∷ (codes "--faults=f" ∷ codes "faults=f" ∷ codes "--faults" ∷ codes "--faultsx=f" ∷ codes "--fault=f" ∷ [])
+    ∷ []) ≡ ((2, codes "f") ∷ (3, []) ∷ []) ∷ [] ∷ []
+numbered_rows = refl
+
+-- no file; one before, between and after operands; names that begin with `--` or a minus, or hold `=`
+faults_rows : map (file_option (codes "--faults")) (
+    []
+    ∷ (codes "exec" ∷ codes "a" ∷ codes "b" ∷ [])
+    ∷ (codes "exec" ∷ codes "--faults=f" ∷ codes "a" ∷ codes "b" ∷ [])
+    ∷ (codes "exec" ∷ codes "a" ∷ codes "--faults=f" ∷ codes "b" ∷ [])
+    ∷ (codes "exec" ∷ codes "a" ∷ codes "b" ∷ codes "--faults=f" ∷ [])
+    ∷ (codes "exec" ∷ codes "--faults=--f" ∷ [])
+    ∷ (codes "exec" ∷ codes "--faults=-f" ∷ [])
+    ∷ (codes "exec" ∷ codes "--faults==f=" ∷ [])
+    ∷ []) ≡ Some None ∷ Some None ∷ map (λ n. Some (Some (value_word (codes "--faults") n))) (1 ∷ 2 ∷ 3 ∷ 1 ∷ 1 ∷ 1 ∷ [])
+faults_rows = refl
+
+-- nothing and a minus name no file, and two options name none, even where they are the same
+no_faults_rows : map (file_option (codes "--faults")) (
+    (codes "exec" ∷ codes "--faults=" ∷ [])
+    ∷ (codes "exec" ∷ codes "--faults=-" ∷ [])
+    ∷ (codes "exec" ∷ codes "--faults=f" ∷ codes "a" ∷ codes "--faults=g" ∷ [])
+    ∷ (codes "exec" ∷ codes "--faults=f" ∷ codes "--faults=f" ∷ [])
+    ∷ (codes "exec" ∷ codes "--faults=" ∷ codes "--faults=f" ∷ [])
+    ∷ []) ≡ replicate 5 None
+no_faults_rows = refl
 
 -- ---- options
 table : OptionTable

@@ -1,4 +1,4 @@
-ghost use Rattle.std.specs.Prelude.{◌≡◌, ◌≤◌, MatchOption, [], ◌∷◌, count_by, drop, length, map, string_bytes};
+ghost use Rattle.std.specs.Prelude.{◌≡◌, ◌+◌, ◌≤◌, IfSome, IsCharBoundary, MatchOption, [], ◌∷◌, count_by, drop, length, map, string_bytes};
 ghost use Rattle.std.specs.Option.{option_map, option_map_or};
 ghost use Rattle.std.specs.Str.{bytes_eq};
 ghost use Rattle.word_readers.specs.Options.{flag_of, has_only_options, is_option, is_row_of, is_word_of, row_of, value_in, values_of};
@@ -88,9 +88,11 @@ fn is_row_of(word: &str, row: &OptionRow) -> bool
     }
 }
 
-/// The value that a word `NAME=VALUE` gives the option of this name. What stands before the first `=` is the name.
-fn value_in<'a>(word: &'a str, name: &str) -> Option<&'a str>
-    ensures { option_map (λ value. value.now) result ≡ value_in name.now word.now }
+/// The value that a word `NAME=VALUE` gives the option of this name. What stands before the first `=` is the name,
+/// and the value begins after it.
+pub(crate) fn value_in<'a>(word: &'a str, name: &str) -> Option<&'a str>
+    ensures value { option_map (λ value. value.now) result ≡ value_in name.now word.now }
+    ensures place { IfSome result (λ value. IsCharBoundary word.now (length name.now + 1)) }
 {
     let (own_name, value) = word.split_once('=')?;
     if own_name == name { Some(value) } else { None }

@@ -1,9 +1,18 @@
+use Rattle.std.proofs.Common.{◌+◌, None}
+use Rattle.moduli_sets.specs.Set.{radius}
 use Rattle.machine_table.specs.Integers.{integer_run}
-use Rattle.residue_machine.proofs.FaultlessLemmas.{runs_true}
+use Rattle.shown_run.specs.Decoded.{nearest}
 use Rattle.object_runs.specs.RunText.{trace_of}
-use Rattle.object_runs.proofs.RunLemmas.{tells}
+use Rattle.object_runs.proofs.RunLemmas.{few_named, none_counted, tells}
 use Rattle.object_runs.proofs.laws.runs_as_integers.Goals as goal
 
-pub returns : goal.returns
-returns c = λ set code words input book n rules sound faultless fit.
-    tells set (trace_of book set code words n input) (integer_run set code words n input) (runs_true set code words input book n rules sound faultless fit)
+pub returns-clause-text : goal.returns-clause-text
+returns-clause-text c = λ set code words input book n rules sound few fit.
+    tells set (trace_of book set code words n input) (integer_run set code words n input)
+    (c.few_faults_change_nothing.ensures.run (nearest (radius set) None set) set code words input book n rules sound (c.decoders_tell.ensures.each set None book rules few) fit)
+
+pub returns-clause-counts : goal.returns-clause-counts
+returns-clause-counts c = λ set code words input book n rules sound none fit.
+    let tells_it = c.decoders_tell.ensures.no_other set book rules (few_named book (radius set + 1) none) in
+    none_counted set (trace_of book set code words n input)
+    (λ i. c.unnamed_channels_stay_right.ensures.corrections (nearest (radius set) None set) None set code words input book n i rules sound tells_it fit (none i))

@@ -7,11 +7,11 @@ use Rattle.rnm_engine.proofs.exec.exec.Goals as goal
 
 pub returns-in-Ok : goal.returns-in-Ok
 returns-in-Ok g c =
-    loaded g.K.Sink.puts g.K.Sink.state c.args.sink.now c.args.steps c.args.object.now c.args.input.now (program_of c.in-Ok.object)
+    loaded g.K.Sink.puts g.K.Sink.state c.args.sink.now c.args.steps c.args.object.now c.args.input.now c.args.faults.now (program_of c.in-Ok.object)
     c.in-Ok.ensures.no_fault c.in-Ok.ensures.program c.exec_on.result c.exec_on.new.sink c.exec_on.ensures
 
 pub returns-in-Err : goal.returns-in-Err
 returns-in-Err g c =
     let old = c.args.sink.now in
-    subst (λ (stop : Stop). Does g.K.Sink.puts g.K.Sink.state old (IsOwn (IsExecAnswer c.args.steps c.args.object.now c.args.input.now)) (Err stop) old) (sym c.stop_of.ensures)
-    (refuses g.K.Sink.puts g.K.Sink.state old c.args.steps c.args.object.now c.args.input.now c.in-Err.fault c.in-Err.ensures.fault)
+    subst (λ (stop : Stop). Does g.K.Sink.puts g.K.Sink.state old (IsOwn (IsExecAnswer c.args.steps c.args.object.now c.args.input.now c.args.faults.now)) (Err stop) old) (sym c.stop_of.ensures)
+    (refuses g.K.Sink.puts g.K.Sink.state old c.args.steps c.args.object.now c.args.input.now c.args.faults.now c.in-Err.fault c.in-Err.ensures.fault)

@@ -1,7 +1,7 @@
 use Rattle.std.proofs.Common.{◌≡◌, [], get_or, map, string_bytes, sym, ap, ◌∙◌, true, false, arith}
 use Rattle.std.proofs.lemmas.List.{length-map}
 use Rattle.word_readers.specs.Options.{is_option}
-use Rattle.word_readers.proofs.OperandLemmas.{operands_from-end, operands_from-operand, operands_from-option}
+use Rattle.word_readers.proofs.OperandLemmas.{operands_from-operand, operands_from-option}
 use Rattle.word_readers.proofs.WordsAt.{word_at}
 use Rattle.word_readers.proofs.operands.next_operand.Goals as goal
 
@@ -14,11 +14,6 @@ returns-then-not-is_option-clause-value c =
     ≡ false = ap is_option (sym same) ∙ sym c.is_option.ensures ∙ c.if-not-is_option.true in
     c.loop-i.invariant ∙ operands_from-operand (map string_bytes words) c.loop-i.i
     (omega (arith, length-map words string_bytes)) operand
-
-pub returns-clause-value : goal.returns-clause-value
-returns-clause-value c =
-    let words = c.args.words.now in
-    c.loop-i.invariant ∙ operands_from-end (map string_bytes words) c.loop-i.i (omega (arith, length-map words string_bytes))
 
 pub loop-i-preserved : goal.loop-i-preserved
 loop-i-preserved c =

@@ -16,7 +16,7 @@ returns-then-is_some c =
     c.as_str.ensures.value in
     let second = HasFound-second name (map string_bytes rest) i c.loop-word.found c.in-Some.value
     (omega (arith, length-map rest string_bytes)) (sym c.is_some.ensures ∙ c.if-is_some.true) c.loop-word.invariant
-    (c.in-Some.ensures ∙ ap (value_in name) same) in
+    (c.in-Some.ensures.value ∙ ap (value_in name) same) in
     subst (λ words. 2 ≤ length (filter_map (value_in name) words)) c.after_command-rest.ensures second
 
 pub loop-word-preserved : goal.loop-word-preserved
@@ -31,9 +31,9 @@ loop-word-preserved c =
     elim c.match-value_in.branch [
       | in-Some+else-is_some w ↦ subst found (sym w.found-is) (HasFound-first name (map string_bytes rest) i c.loop-word.found
           w.in-Some.value some (sym w.is_some.ensures ∙ w.if-is_some.false) c.loop-word.invariant
-          (w.in-Some.ensures ∙ ap (value_in name) same))
+          (w.in-Some.ensures.value ∙ ap (value_in name) same))
       | in_default w ↦ subst found (sym w.found-is) (HasFound-passed name (map string_bytes rest) i c.loop-word.found some
-          c.loop-word.invariant (ap value_read (sym w.in_default.is) ∙ c.value_in.ensures ∙ ap (value_in name) same))
+          c.loop-word.invariant (ap value_read (sym w.in_default.is) ∙ c.value_in.ensures.value ∙ ap (value_in name) same))
     ]
 
 pub returns : goal.returns
