@@ -7,6 +7,7 @@ from pathlib import Path
 
 from second.evaluation import answer
 from second.machine import exec_answer
+from second.shown import shown_answer
 
 TOP = Path(__file__).resolve().parent.parent
 PROGRAM = os.environ.get("RNM_PROGRAM", str(TOP / "crates" / "rnm" / "out" / "rnm"))
@@ -30,11 +31,21 @@ def ask_second(words, files):
         return None
     options = dict(word[2:].split("=", 1) for word in words[1:] if word.startswith("--"))
     first, given = [word for word in words[1:] if not word.startswith("--")]
+    for name in (first, given, options.get("faults", "-")):
+        if name != "-" and name not in files:
+            return f"unread {name}\n".encode(), 3
     text, steps = b"" if given == "-" else files[given], int(options.get("steps", 1_000_000))
     if words[0] == "exec":
-        return exec_answer(files[first], text, steps)
+        return ask_machine(files[first], text, options, files, steps)
     written, status, _ = answer(files[first], text, options.get("set", "desk"), steps)
     return written, status
+
+
+def ask_machine(content, text, options, files, steps):
+    """By the machine over plain integers; with faults, and where integers leave the range, by the one on residues."""
+    if "faults" in options:
+        return shown_answer(content, text, files[options["faults"]], steps)
+    return exec_answer(content, text, steps) or shown_answer(content, text, steps=steps)
 
 
 def asked(arguments):

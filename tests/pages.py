@@ -4,14 +4,15 @@
 Runs the examples of the pages that a user reads, from the pages themselves, and compares what is written. On a page each
 fenced block without a word behind its fence, or with the word `hex`, is one of these:
 
-- A session, which begins with `$ `. `$ echo WORDS > FILE` makes a file. `$ rnm WORDS` or `$ ./rnm WORDS` runs the program,
-  and what it writes stands below; its status is 0, or it is shown by `; echo $?` behind the words and is the last line.
+- A session, which begins with `$ `. `$ echo WORDS > FILE` makes a file, and `$ echo WORDS >> FILE` puts a line at its end.
+  `$ rnm WORDS` or `$ ./rnm WORDS` runs the program, and what it writes stands below; its status is 0, or it is shown by
+  `; echo $?` behind the words and is the last line.
 - A file, for the next session: the one that is its first operand. With `hex` it is bytes in hexadecimal; `#` and what is
   behind it in a line is a comment.
 
-Besides, the files of a page's own folder are there, where that is a folder of examples. Blocks with another word behind
-the fence are of another kind (`ebnf`, `text`) and aren't run. With `--second` it asks the second evaluator and the second
-machine of tests/second, which know `mean` and `exec` alone.
+Besides, the files of a page's own folder are there, where that is a folder of examples; a block with the name of one of
+them must have its bytes. Blocks with another word behind the fence are of another kind (`ebnf`, `text`) and aren't run.
+With `--second` it asks the second evaluator and the second machines of tests/second, which know `mean` and `exec` alone.
 """
 import re
 import sys
@@ -21,7 +22,7 @@ sys.dont_write_bytecode = True
 
 from asking import TOP, asked, difference, report
 
-PAGES = [TOP / "README.md", *(TOP / "docs" / name for name in ("FORMATS.md", "LANGUAGE.md", "MACHINE.md"))]
+PAGES = [TOP / "README.md", *(TOP / "docs" / name for name in ("FORMATS.md", "LANGUAGE.md", "MACHINE.md", "TOUR.md"))]
 EXAMPLES = TOP / "examples"
 FENCE = "```"
 HEX = "hex"
@@ -75,10 +76,11 @@ def runs_of_session(begin, lines, files, source):
     """The runs of a session, whose files are put among the others; a source has the name of the first run's operand."""
     runs = []
     for number, line in enumerate(lines, begin + 1):
-        made = re.fullmatch(r"\$ echo (.*) > (\S+)", line)
+        made = re.fullmatch(r"\$ echo (.*) (>>?) (\S+)", line)
         run = re.fullmatch(r"\$ (?:\./)?rnm (.*)", line)
         if made:
-            files[made[2]] = made[1].encode() + b"\n"
+            before = files.get(made[3], b"") if made[2] == ">>" else b""
+            files[made[3]] = before + made[1].encode() + b"\n"
         elif run:
             runs.append(Run(number, run[1]))
             if source is not None and len(runs) == 1:
@@ -93,14 +95,16 @@ def runs_of_session(begin, lines, files, source):
 
 def runs_of(page):
     """Each run of a page."""
-    files = {}
+    own = {}
     if EXAMPLES in page.parents:
-        files = {path.name: path.read_bytes() for path in page.parent.iterdir() if path != page}
-    source, runs = None, []
+        own = {path.name: path.read_bytes() for path in page.parent.iterdir() if path != page}
+    files, source, runs = dict(own), None, []
     for begin, word, lines in blocks_of(page.read_text(encoding="utf-8")):
         if lines and lines[0].startswith("$ "):
             runs += runs_of_session(begin, lines, files, source)
             source = None
+            if any(files[name] != content for name, content in own.items()):
+                raise SystemExit(f"{page}:{begin}: a file before this block isn't that of the folder")
         elif source is None:
             source = content_of(word, lines)
         else:
