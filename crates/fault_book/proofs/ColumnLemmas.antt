@@ -1,11 +1,11 @@
 -- Channels that aren't named, and columns that differ in named channels alone.
-use Rattle.std.proofs.Common.{◌≡◌, ℕ, nat_lt, zero, suc, ◌+◌, ◌<◌, ◌≤◌, ◌==◌, Bool, true, false, cond, if◌then◌else◌, List, [], ◌∷◌, length, slice_index, Option, None, Some, is_some, refl, ap, ◌∙◌, subst, eq-eqb, arith}
+use Rattle.std.proofs.Common.{◌≡◌, ℕ, nat_lt, zero, suc, ◌+◌, ◌<◌, ◌≤◌, ◌==◌, ◌||◌, Bool, true, false, cond, if◌then◌else◌, List, [], ◌∷◌, length, slice_index, Option, None, Some, is_some, inl, inr, refl, sym, ap, ◌∙◌, subst, eq-eqb, arith}
 use Rattle.std.specs.List.{list_any, range_with_len, count_by}
 use Rattle.std.specs.Ordering.{eq_by_cmp, ordering_then, is_eq, nat_cmp}
 use Rattle.std.specs.declared.cmp.Ordering.{Ordering}
 use Rattle.std.specs.declared.cmp.Ordering.TheVariants.{Less, Equal, Greater}
 use Rattle.std.specs.FinMap.{keys, contains_key-keys}
-use Rattle.std.proofs.lemmas.Bool.{or_parts, or_from}
+use Rattle.std.proofs.lemmas.Bool.{cases_Bool, false_from_ne_true, false≢true, or_from, or_left, or_parts, or_right}
 use Rattle.std.proofs.lemmas.Bool.Decides.{nat_tests}
 use Rattle.std.proofs.lemmas.List.Sums.{sum_by-cons}
 use Rattle.number_theory.specs.Distance.{distance}
@@ -34,6 +34,27 @@ none_from_test (Some x) h = cc
 pub fault_at-unnamed : (book : Book) (channel number : ℕ) → is_faulty book channel ≡ false → fault_at book channel number ≡ None
 fault_at-unnamed book channel number h =
     none_from_test (fault_at book channel number) (contains_key-keys book (channel, number) ∙ no_key channel number (keys book) h)
+
+same_first : (b : ℕ) (a : ℕ × ℕ) → (a.0 == b) ≡ true → eq_by_cmp answer_cmp (b, a.1) a ≡ true
+same_first b a h = grind (arith, nat_tests)
+
+-- a named channel has a key
+some_key : (channel : ℕ) (ks : List (ℕ × ℕ)) → list_any (λ a. a.0 == channel) ks ≡ true → (number : ℕ) × (list_any (eq_by_cmp answer_cmp (channel, number)) ks ≡ true)
+some_key channel [] h = cc
+some_key channel (a ∷ ks) h =
+    elim (cases_Bool (a.0 == channel)) [
+      | inl here ↦ (a.1, or_left (eq_by_cmp answer_cmp (channel, a.1) a) (list_any (eq_by_cmp answer_cmp (channel, a.1)) ks) (same_first channel a here))
+      | inr elsewhere ↦
+          let (number, found) = some_key channel ks (sym (ap (λ t. t || list_any (λ k. k.0 == channel) ks) elsewhere) ∙ h) in
+          (number, or_right (eq_by_cmp answer_cmp (channel, number) a) (list_any (eq_by_cmp answer_cmp (channel, number)) ks) found)
+    ]
+
+-- so a channel that has no fault isn't named
+pub faultless-unnamed : (book : Book) (channel : ℕ) → ((number : ℕ) → fault_at book channel number ≡ None) → is_faulty book channel ≡ false
+faultless-unnamed book channel none =
+    false_from_ne_true (is_faulty book channel) (λ named.
+    let (number, found) = some_key channel (keys book) named in
+    false≢true (sym (ap is_some (none number)) ∙ contains_key-keys book (channel, number) ∙ found))
 
 -- ---- columns
 pub count_by-cons : (p : ℕ → Bool) (x : ℕ) (xs : List ℕ) → count_by p (x ∷ xs) ≡ cond (p x) 1 0 + count_by p xs

@@ -2,12 +2,15 @@ ghost use Rattle.std.specs.Prelude.{◌≡◌, ◌<◌, ◌≤◌, ℕ, None, fa
 ghost use Rattle.number_theory.specs.Distance.{distance};
 ghost use Rattle.fault_book.specs.Book.{Book, fault_at, faulty_channels, is_faulty};
 
-/// A channel that the book doesn't name has no fault. So columns that agree in each channel that isn't named are at a
-/// distance of no more than the number of named channels.
+/// A channel that the book doesn't name has no fault, and one without a fault isn't named. So columns that agree in each
+/// channel that isn't named are at a distance of no more than the number of named channels.
 pub fn laws_of_faults()
     ensures unnamed { (book : Book) (channel number : ℕ)
         → is_faulty book channel ≡ false
         → fault_at book channel number ≡ None }
+    ensures named { (book : Book) (channel : ℕ)
+        → ((number : ℕ) → fault_at book channel number ≡ None)
+        → is_faulty book channel ≡ false }
     ensures columns { (book : Book) (xs ys : List ℕ)
         → length xs ≤ 12
         → ((channel : ℕ)
