@@ -1,6 +1,6 @@
 -- Runs of whole programs, from their start.
 use Rattle.std.proofs.Common.{◌≡◌, ℕ, ℤ, List, length, inr, sym, ap, ◌∙◌, subst}
-use Rattle.moduli_sets.specs.Set.{ModuliSet, IsModuliSet}
+use Rattle.moduli_sets.specs.Set.{ModuliSet}
 use Rattle.channel_alu.specs.declared.operation.Place.{Place}
 use Rattle.fault_book.specs.Book.{Book}
 use Rattle.channel_lane.specs.Lane.{LaneState}
@@ -8,8 +8,7 @@ use Rattle.channel_lane.specs.Meaning.{integers_after, integers_at_start}
 use Rattle.lane_bank.specs.Bank.{lanes_at_start}
 use Rattle.machine_table.specs.declared.instr.Instr.{Instr}
 use Rattle.machine_table.specs.Control.{control_at_start}
-use Rattle.machine_table.specs.Faults.{IsSound}
-use Rattle.machine_table.specs.Integers.{IntegerRun, IsFit, integer_run, printed_by}
+use Rattle.machine_table.specs.Integers.{IntegerRun, integer_run, printed_by}
 use Rattle.micro_plan.specs.ActTree.{Acts, issue, ask, print, go_on, end_by}
 use Rattle.micro_plan.specs.Acts.{acts_of_run}
 use Rattle.micro_plan.specs.Told.{StayTrue, integers_by}
@@ -18,7 +17,7 @@ use Rattle.micro_plan.proofs.ToldRuns.{AreInRange-start, run-comes}
 use Rattle.shown_run.specs.Trace.{Trace, ends_as}
 use Rattle.shown_run.specs.Runs.{Decoding, plain, run_shown}
 use Rattle.shown_run.proofs.PlainLemmas.{ending-plain, prints-plain}
-use Rattle.fault_run.specs.FaultRun.{integer_trace}
+use Rattle.fault_run.specs.FaultRun.{StaysInRange, integer_trace}
 use Rattle.fault_run.specs.Moments.{IsDamaged, RunsUpToDamage}
 use Rattle.fault_run.specs.Telling.{TellsEach, TellsNoOther}
 use Rattle.fault_run.proofs.RightLanes.{AreRightLanes-start}
@@ -33,7 +32,7 @@ plain_is_undamaged moduli (go_on control) at h = h
 plain_is_undamaged moduli (end_by end) at h = h
 
 module _ (decode : Decoding) (set : ModuliSet) (code : List Instr) (words input : List ℤ) (book : Book) (n : ℕ)
-    (rules : IsModuliSet set) (sound : IsSound set code words) (fit : IsFit (integer_run set code words n input)) where
+    (stays : StaysInRange set code words input n) where
   abbrev acts : Acts
   acts = acts_of_run set code n (control_at_start input)
 
@@ -44,13 +43,13 @@ module _ (decode : Decoding) (set : ModuliSet) (code : List Instr) (words input 
   trace = run_shown decode book set code n (control_at_start input) start
 
   comes : (integers_by set.moduli acts (integers_at_start words) ≡ integer_run set code words n input) × StayTrue set acts (integers_at_start words)
-  comes = run-comes set code words n rules sound (control_at_start input) (integers_at_start words) (AreInRange-start set words sound.in_range) fit
+  comes = run-comes set code words n stays.rules stays.sound (control_at_start input) (integers_at_start words) (AreInRange-start set words stays.sound.in_range) stays.fit
 
   -- what is kept is said of the run
   pub said_of_run : TellsNoOther decode set book → (Said : Saying) → IsKept decode set (length words) book Said → Said acts (integers_at_start words) start trace
   said_of_run tells Said kept =
-      said decode set (length words) book rules tells Said kept acts (integers_at_start words) start (AreRightLanes-start set book words rules)
-      (run-can set code words n (control_at_start input) rules sound) comes.1 (AreInRange-start set words sound.in_range)
+      said decode set (length words) book stays.rules tells Said kept acts (integers_at_start words) start (AreRightLanes-start set book words stays.rules)
+      (run-can set code words n (control_at_start input) stays.rules stays.sound) comes.1 (AreInRange-start set words stays.sound.in_range)
 
   pub up_to_damage : TellsNoOther decode set book → RunsUpToDamage trace (integer_run set code words n input)
   up_to_damage tells =

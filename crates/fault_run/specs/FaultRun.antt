@@ -2,13 +2,15 @@
 use Rattle.std.specs.Prelude.{◌≡◌, ℕ, zero, suc, ◌+◌, ◌<◌, ℤ, Bool, true, false, ◌&&◌, List, [], ◌∷◌, length, map, take, count_by, slice_index, Option, None}
 use Rattle.std.specs.List.{range_with_len}
 use Rattle.std.specs.Option.{option_map_or}
-use Rattle.moduli_sets.specs.Set.{ModuliSet}
+use Rattle.moduli_sets.specs.Set.{IsModuliSet, ModuliSet}
 use Rattle.channel_alu.specs.declared.operation.MicroOp.{MicroOp}
 use Rattle.fault_book.specs.Book.{Book}
 use Rattle.channel_lane.specs.Lane.{LaneState, answer_of, lane_after}
 use Rattle.channel_lane.specs.Meaning.{integers_at_start}
 use Rattle.machine_table.specs.declared.instr.Instr.{Instr}
 use Rattle.machine_table.specs.Control.{control_at_start}
+use Rattle.machine_table.specs.Faults.{IsSound}
+use Rattle.machine_table.specs.Integers.{IsFit, integer_run}
 use Rattle.micro_plan.specs.Acts.{acts_of_run}
 use Rattle.shown_run.specs.Runs.{Decoding, plain}
 use Rattle.shown_run.specs.Trace.{Trace, did, showed, printed, went_on, ended, damaged, damage, corrections_of, ending_of, is_corrected, operations_of, prints_of}
@@ -16,6 +18,12 @@ use Rattle.shown_run.specs.Trace.{Trace, did, showed, printed, went_on, ended, d
 -- what the integer run of a program does, at most n instructions of it
 abbrev pub integer_trace : ModuliSet → List Instr → List ℤ → List ℤ → ℕ → Trace
 integer_trace set code words input n = plain set.moduli (acts_of_run set code n (control_at_start input)) (integers_at_start words)
+
+-- The set is one, the program is sound on it, and no integer of its run leaves the range in n instructions.
+pub record StaysInRange (set : ModuliSet) (code : List Instr) (words input : List ℤ) (n : ℕ) : Type 0 where
+  pub rules : IsModuliSet set
+  pub sound : IsSound set code words
+  pub fit : IsFit (integer_run set code words n input)
 
 -- ---- one channel by itself
 -- its answers to a finished list of operations

@@ -6,12 +6,11 @@ ghost use Rattle.channel_lane.specs.Meaning.{integers_at_start};
 ghost use Rattle.lane_bank.specs.Bank.{lanes_at_start};
 ghost use Rattle.machine_table.specs.declared.instr.Instr.{Instr};
 ghost use Rattle.machine_table.specs.Control.{control_at_start};
-ghost use Rattle.machine_table.specs.Faults.{IsSound};
-ghost use Rattle.machine_table.specs.Integers.{IsFit, integer_run};
+ghost use Rattle.machine_table.specs.Integers.{integer_run};
 ghost use Rattle.shown_run.specs.Decoded.{nearest};
 ghost use Rattle.shown_run.specs.Runs.{Decoding, faulty, run_shown};
 ghost use Rattle.shown_run.specs.Trace.{Trace, corrections_of, operations_of};
-ghost use Rattle.fault_run.specs.FaultRun.{IsFaultRun, IsFirstBad, NoneIsBad, integer_trace};
+ghost use Rattle.fault_run.specs.FaultRun.{IsFaultRun, IsFirstBad, NoneIsBad, StaysInRange, integer_trace};
 ghost use Rattle.fault_run.specs.Moments.{HoldUnnamedThrough, IsDamaged, RunsAs, RunsUpToDamage, ShowsUnnamed};
 ghost use Rattle.fault_run.specs.Telling.{TellsEach, TellsNoOther, named_channels};
 
@@ -47,10 +46,8 @@ pub fn first_bad_column()
 pub fn shown_runs_are_fault_runs()
     ensures { (decode : Decoding) (erased : Option ℕ) (set : ModuliSet) (code : List Instr) (words input : List ℤ)
         (book : Book) (n : ℕ)
-        → IsModuliSet set
-        → IsSound set code words
+        → StaysInRange set code words input n
         → TellsNoOther decode set book
-        → IsFit (integer_run set code words n input)
         → IsFaultRun decode book (lanes_at_start set 0 words) (integer_trace set code words input n) erased set
         (run_shown decode book set code n (control_at_start input) (lanes_at_start set 0 words)) }
 {}
@@ -58,10 +55,8 @@ pub fn shown_runs_are_fault_runs()
 /// So a run prints a front of what the integer run prints, and all of it, with its ending, where no damage stops it.
 pub fn faults_cut_runs()
     ensures { (decode : Decoding) (set : ModuliSet) (code : List Instr) (words input : List ℤ) (book : Book) (n : ℕ)
-        → IsModuliSet set
-        → IsSound set code words
+        → StaysInRange set code words input n
         → TellsNoOther decode set book
-        → IsFit (integer_run set code words n input)
         → RunsUpToDamage
         (run_shown decode book set code n (control_at_start input) (lanes_at_start set 0 words))
         (integer_run set code words n input) }
@@ -70,19 +65,15 @@ pub fn faults_cut_runs()
 /// And where the decoder tells each integer, the run prints and ends as the integer run, after the same operations.
 pub fn few_faults_change_nothing()
     ensures run { (decode : Decoding) (set : ModuliSet) (code : List Instr) (words input : List ℤ) (book : Book) (n : ℕ)
-        → IsModuliSet set
-        → IsSound set code words
+        → StaysInRange set code words input n
         → TellsEach decode set book
-        → IsFit (integer_run set code words n input)
         → RunsAs
         (run_shown decode book set code n (control_at_start input) (lanes_at_start set 0 words))
         (integer_run set code words n input) }
     ensures operations { (decode : Decoding) (set : ModuliSet) (code : List Instr) (words input : List ℤ) (book : Book)
         (n : ℕ)
-        → IsModuliSet set
-        → IsSound set code words
+        → StaysInRange set code words input n
         → TellsEach decode set book
-        → IsFit (integer_run set code words n input)
         → operations_of (run_shown decode book set code n (control_at_start input) (lanes_at_start set 0 words))
         ≡ operations_of (integer_trace set code words input n) }
 {}
@@ -91,26 +82,20 @@ pub fn few_faults_change_nothing()
 /// differs from the vector of the integer that is told in named channels alone; and nothing is corrected in the others.
 pub fn unnamed_channels_stay_right()
     ensures hold { (decode : Decoding) (set : ModuliSet) (code : List Instr) (words input : List ℤ) (book : Book) (n : ℕ)
-        → IsModuliSet set
-        → IsSound set code words
+        → StaysInRange set code words input n
         → TellsNoOther decode set book
-        → IsFit (integer_run set code words n input)
         → HoldUnnamedThrough set book
         (operations_of (run_shown decode book set code n (control_at_start input) (lanes_at_start set 0 words)))
         (lanes_at_start set 0 words) (integers_at_start words) }
     ensures shown { (decode : Decoding) (set : ModuliSet) (code : List Instr) (words input : List ℤ) (book : Book) (n : ℕ)
-        → IsModuliSet set
-        → IsSound set code words
+        → StaysInRange set code words input n
         → TellsNoOther decode set book
-        → IsFit (integer_run set code words n input)
         → ShowsUnnamed set book
         (run_shown decode book set code n (control_at_start input) (lanes_at_start set 0 words)) }
     ensures corrections { (decode : Decoding) (erased : Option ℕ) (set : ModuliSet) (code : List Instr)
         (words input : List ℤ) (book : Book) (n channel : ℕ)
-        → IsModuliSet set
-        → IsSound set code words
+        → StaysInRange set code words input n
         → TellsNoOther decode set book
-        → IsFit (integer_run set code words n input)
         → is_faulty book channel ≡ false
         → corrections_of erased set
         (run_shown decode book set code n (control_at_start input) (lanes_at_start set 0 words)) channel ≡ 0 }

@@ -9,5 +9,5 @@
 mod laws;
 mod running;
 
-pub use laws::{machines_run_so, runs_as_integers, runs_up_to_damage};
+pub use laws::{machines_run_so, machines_without_faults, runs_as_integers, runs_up_to_damage};
 pub use running::run;

@@ -4,13 +4,13 @@ use Rattle.fault_run.proofs.WholeRuns.{no_other, said_of_run, up_to_damage}
 use Rattle.fault_run.proofs.laws.few_faults_change_nothing.Goals as goal
 
 pub returns-clause-run : goal.returns-clause-run
-returns-clause-run c = λ decode set code words input book n rules sound each fit.
+returns-clause-run c = λ decode set code words input book n stays each.
     let tells = no_other decode set book each in
-    (up_to_damage decode set code words input book n rules sound fit tells).whole
-    (said_of_run decode set code words input book n rules sound fit tells _ (undamaged_kept decode set (length words) book each))
+    (up_to_damage decode set code words input book n stays tells).whole
+    (said_of_run decode set code words input book n stays tells _ (undamaged_kept decode set (length words) book each))
 
 pub returns-clause-operations : goal.returns-clause-operations
-returns-clause-operations c = λ decode set code words input book n rules sound each fit.
+returns-clause-operations c = λ decode set code words input book n stays each.
     let tells = no_other decode set book each in
-    (said_of_run decode set code words input book n rules sound fit tells _ (fronts_kept decode set (length words) book)).operations
-    (said_of_run decode set code words input book n rules sound fit tells _ (undamaged_kept decode set (length words) book each))
+    (said_of_run decode set code words input book n stays tells _ (fronts_kept decode set (length words) book)).operations
+    (said_of_run decode set code words input book n stays tells _ (undamaged_kept decode set (length words) book each))

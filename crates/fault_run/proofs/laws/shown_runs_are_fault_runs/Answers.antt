@@ -11,9 +11,9 @@ use Rattle.fault_run.proofs.WholeRuns.{plain_is_undamaged, said_of_run}
 use Rattle.fault_run.proofs.laws.shown_runs_are_fault_runs.Goals as goal
 
 pub returns : goal.returns
-returns c = λ decode erased set code words input book n rules sound tells fit.
+returns c = λ decode erased set code words input book n stays tells.
     let run = integer_trace set code words input n in
     let lanes = lanes_at_start set 0 words in
     subst (λ (trace : Trace). IsFaultRun decode book lanes run erased set trace)
-    (sym (said_of_run decode set code words input book n rules sound fit tells _ (faulty_kept decode set (length words) book)))
+    (sym (said_of_run decode set code words input book n stays tells _ (faulty_kept decode set (length words) book)))
     (IsFaultRun-faulty decode book erased set run lanes (plain_is_undamaged set.moduli (acts_of_run set code n (control_at_start input)) (integers_at_start words)))

@@ -7,14 +7,14 @@ use Rattle.fault_run.proofs.WholeRuns.{said_of_run}
 use Rattle.fault_run.proofs.laws.unnamed_channels_stay_right.Goals as goal
 
 pub returns-clause-hold : goal.returns-clause-hold
-returns-clause-hold c = λ decode set code words input book n rules sound tells fit.
-    said_of_run decode set code words input book n rules sound fit tells _ (holds_kept decode set (length words) book)
+returns-clause-hold c = λ decode set code words input book n stays tells.
+    said_of_run decode set code words input book n stays tells _ (holds_kept decode set (length words) book)
 
 pub returns-clause-shown : goal.returns-clause-shown
-returns-clause-shown c = λ decode set code words input book n rules sound tells fit.
-    said_of_run decode set code words input book n rules sound fit tells _ (shows_kept decode set (length words) book)
+returns-clause-shown c = λ decode set code words input book n stays tells.
+    said_of_run decode set code words input book n stays tells _ (shows_kept decode set (length words) book)
 
 pub returns-clause-corrections : goal.returns-clause-corrections
-returns-clause-corrections c = λ decode erased set code words input book n channel rules sound tells fit unnamed.
+returns-clause-corrections c = λ decode erased set code words input book n channel stays tells unnamed.
     uncorrected erased set book channel unnamed (run_shown decode book set code n (control_at_start input) (lanes_at_start set 0 words))
-    (said_of_run decode set code words input book n rules sound fit tells _ (shows_kept decode set (length words) book))
+    (said_of_run decode set code words input book n stays tells _ (shows_kept decode set (length words) book))
