@@ -1,5 +1,6 @@
 pub mod ActLemmas
 pub mod BenchLemmas
+mod FaultyRunLemmas
 pub mod OperandLemmas
 pub mod PutLemmas
 pub mod Rows

@@ -11,7 +11,10 @@ pub use Rattle.shown_run.specs.Decoded
 pub use Rattle.shown_run.specs.Runs
 pub use Rattle.outside.specs.Sink
 pub use Rattle.number_text.specs.Lines
+pub use Rattle.fault_run.specs.FaultRun
+pub use Rattle.fault_run.specs.Telling
 pub mod Bench
+pub mod FaultyRuns
 pub mod Machine
 pub mod Outcomes
 pub mod Places

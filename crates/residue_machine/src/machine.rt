@@ -1,8 +1,13 @@
-ghost use Rattle.std.specs.Prelude.{◌≡◌, ◌+◌, ◌<◌, ◌≤◌, ◌^◌, [], None};
-ghost use Rattle.moduli_sets.specs.Set.{radius};
+ghost use Rattle.std.specs.Prelude.{◌≡◌, ◌≢◌, ◌+◌, ◌<◌, ◌≤◌, ◌^◌, ℤ, List, [], None};
+ghost use Rattle.moduli_sets.specs.Set.{ModuliSet, radius};
 ghost use Rattle.moduli_sets.specs.Name.{set_of_name};
 ghost use Rattle.lane_bank.specs.Bank.{lanes_at_start};
 ghost use Rattle.machine_table.specs.Objects.{code_of, set_of_object, words_of};
+ghost use Rattle.machine_table.specs.declared.instr.Instr.{Instr as Instruction};
+ghost use Rattle.fault_run.specs.FaultRun.{StaysInRange};
+ghost use Rattle.fault_run.specs.Telling.{named_channels};
+ghost use Rattle.residue_machine.specs.declared.ending.Ending.TheVariants.{SinkFailed};
+ghost use Rattle.residue_machine.specs.FaultyRuns.{CameOutByFaults, IsLoaded};
 ghost use Rattle.residue_machine.specs.Machine.{IsRun, IsStep, machine_at_start};
 
 use crate::channels::Channels;
@@ -12,6 +17,7 @@ use crate::outcome::Outcome;
 use crate::position::Position;
 use crate::repeating::end;
 use channel_scheduler::Rack;
+use fault_run::{decoders_tell, shown_runs_are_fault_runs};
 use machine_table::Object;
 use moduli_sets::Counts;
 use number_text::line_of;
@@ -84,11 +90,22 @@ impl<'o, R: Rack, D: Decoder> Machine<'o, R, D> {
     /// ending again and puts nothing, with 0 instructions too. After a put that failed the instruction is done, and a later
     /// call goes on after it. Every answer leaves the rack settled. No more than 10^12 instructions are performed in all.
     /// Takes no memory.
+    ///
+    /// On a machine that was just loaded, where no integer leaves the range and no more channels answer wrongly than one above
+    /// the radius of the set, it is the fault run: damage ends it exactly at the first column that no integer in range explains.
     pub fn run<K: Sink>(&mut self, steps: u64, sink: &mut K) -> Ending
         requires { self.old.taken + steps ≤ 10 ^ 12 }
         ensures run { IsRun R.Rack radius None R.HasEnded K.puts K.state steps self.old sink.old result self.new sink.new }
+        ensures faults { (set : ModuliSet) (code : List Instruction) (words input : List ℤ)
+            → IsLoaded R.Rack set code words input self.old
+            → StaysInRange set code words input steps
+            → named_channels None (R.book_of self.old.channels.rack) ≤ radius set + 1
+            → result ≢ SinkFailed
+            → CameOutByFaults R.Rack set code words input R.HasEnded K.puts K.state steps (R.book_of self.old.channels.rack) sink.old result self.new sink.new }
         ensures settled { R.IsSettled self.new.channels.rack }
     {
+        decoders_tell();
+        shown_runs_are_fault_runs();
         let ending = self.run_on(steps, sink);
         self.channels.settle();
         ending
