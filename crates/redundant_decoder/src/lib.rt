@@ -12,4 +12,4 @@ mod projecting;
 
 pub use decoder::{Decoder, Verdict, one_verdict};
 pub use distance::{distance_law, nearest_is_the_only_one, places_of_difference, wrong_residues};
-pub use projecting::Projecting;
+pub use projecting::{Projecting, product_of};

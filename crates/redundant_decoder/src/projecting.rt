@@ -121,7 +121,7 @@ fn other_products(set: &Moduli) -> [u128; ROOM]
 }
 
 /// The product of the chosen moduli, whose channels ascend.
-fn product_of(set: &Moduli, which: &Chosen) -> u128
+pub fn product_of(set: &Moduli, which: &Chosen) -> u128
     requires { AreBelow (length (set_of set.now).moduli) which.now }
     ensures value { result ≡ product (entries_at which.now (set_of set.now).moduli) }
     ensures fits { result < 2 ^ 127 }

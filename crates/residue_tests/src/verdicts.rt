@@ -2,8 +2,9 @@ ghost use Rattle.std.specs.Prelude.{◌≡◌, ◌≤◌, length};
 ghost use Rattle.number_theory.specs.Residue.{AreResidues};
 ghost use Rattle.moduli_sets.specs.Name.{set_of_name};
 
+use mixed_radix::Chosen;
 use moduli_sets::{Moduli, SetName, Vector};
-use redundant_decoder::{Decoder, Projecting, Verdict};
+use redundant_decoder::{Decoder, Projecting, Verdict, product_of};
 
 /// The vector of these residues.
 fn list(residues: &[u32]) -> Vector
@@ -83,4 +84,11 @@ fn hall(rt: HostRuntime) {
         ),
         Verdict::Damaged
     );
+}
+
+#[test]
+fn products_of_pocket(rt: HostRuntime) {
+    let set = Moduli::of(SetName::Pocket);
+    assert_eq!(rt; product_of(&set, &Chosen::info(&set)), 195);
+    assert_eq!(rt; product_of(&set, &Chosen::all(&set)), 1_007_760);
 }
