@@ -2,8 +2,8 @@
 //!
 //! In come an object, the faulty answers of channels, the numbers of the input, a limit of instructions and a sink; out go
 //! the integers that are printed, the ending and how many columns were corrected in each channel, and a status. The crate
-//! stands on `residue_machine`, over the bank of any set, on the laws of faults of `fault_run`, and on `job_endings`; the
-//! commands that run objects stand on it. Its tests stand in `command_tests`.
+//! stands on `residue_machine`, over the bank of any set, on the decoder of `syndrome_table`, on the laws of faults of
+//! `fault_run`, and on `job_endings`; the commands that run objects stand on it. Its tests stand in `command_tests`.
 #![tactic(auto)]
 
 mod laws;

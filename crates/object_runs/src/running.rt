@@ -12,9 +12,10 @@ use lane_bank::{AnyBank, Bank};
 use machine_table::Object;
 use moduli_sets::Moduli;
 use outside::Sink;
-use redundant_decoder::{Decoder, Projecting};
+use redundant_decoder::Decoder;
 use residue_machine::{Ending as MachineEnding, Machine};
 use std::alloc::{AllocError, Global};
+use syndrome_table::Syndromes;
 
 /// Runs an object on the numbers of an input, in so many instructions at most, while channels answer wrongly as the book of
 /// faults says. Its integers are printed as they come; then how it ended, and how many columns were corrected in each
@@ -38,8 +39,9 @@ pub fn run<K: Sink>(
     let set = Moduli::of(object.set());
     set.rules();
     let bank = AnyBank::make(alloc, &set, 0, object.words())?;
+    let decoder = Syndromes::build(alloc, &set)?;
     let rack = Lockstep::make(bank, faults);
-    Ok(run_on(object, rack, Projecting::of(&set), input, steps, sink))
+    Ok(run_on(object, rack, decoder, input, steps, sink))
 }
 
 /// The run on a rack that was just made from the data words of the object.

@@ -1,5 +1,5 @@
-//! Tests of the residues floor: of the public calls of `moduli_sets`, `mixed_radix`, `base_extension` and
-//! `redundant_decoder`.
+//! Tests of the residues floor: of the public calls of `moduli_sets`, `mixed_radix`, `base_extension`,
+//! `redundant_decoder` and `syndrome_table`.
 //!
 //! A crate with tests is proved twice, so those of the floor stand here, above it. Nothing comes in or goes out. What
 //! the calls answer is proved in their crates, and worked rows of the definitions are laws there (`proofs/Rows.antt`):
@@ -12,5 +12,7 @@ mod digits;
 mod extension;
 #[cfg(test)]
 mod sets;
+#[cfg(test)]
+mod syndromes;
 #[cfg(test)]
 mod verdicts;

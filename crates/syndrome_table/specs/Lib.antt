@@ -1,0 +1,14 @@
+pub use Rattle.number_theory.specs.Residue
+pub use Rattle.number_theory.specs.Coprime
+pub use Rattle.moduli_sets.specs.Set
+pub use Rattle.moduli_sets.specs.Moduli
+pub use Rattle.moduli_sets.specs.Vector
+pub use Rattle.mixed_radix.specs.Chosen
+pub use Rattle.redundant_decoder.specs.Nearest
+pub use Rattle.redundant_decoder.specs.Verdict
+pub mod Entries
+pub mod Entry
+pub mod Filling
+pub mod Reading
+pub mod Syndrome
+pub mod Table
