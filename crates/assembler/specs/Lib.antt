@@ -1,0 +1,13 @@
+pub use Rattle.machine_table.specs.Faults
+pub use Rattle.machine_table.specs.Objects
+pub mod Fields
+pub mod Words
+pub mod Statements
+pub mod Assembly
+pub mod Listing
+pub mod Reading
+pub mod Readers
+pub mod Forms
+pub mod Lines
+pub mod Taken
+pub mod Laws
