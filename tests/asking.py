@@ -1,10 +1,12 @@
-"""Who is asked what `rnm` writes: the built program, or the second evaluator, which knows `mean` and `exec` alone."""
+"""Who is asked what `rnm` writes: the built program, or the second evaluator, machines and assembler, which know
+`mean`, `exec`, `asm` and `list` alone."""
 import os
 import subprocess
 import sys
 import tempfile
 from pathlib import Path
 
+from second.assembly import asm_answer, list_answer
 from second.evaluation import answer
 from second.machine import exec_answer
 from second.shown import shown_answer
@@ -12,6 +14,8 @@ from second.shown import shown_answer
 TOP = Path(__file__).resolve().parent.parent
 PROGRAM = os.environ.get("RNM_PROGRAM", str(TOP / "crates" / "rnm" / "out" / "rnm"))
 SECOND = "--second"
+LIMIT = 4_194_304
+OF_ONE_FILE = {"asm": asm_answer, "list": list_answer}
 
 
 def ask_program(words, files):
@@ -26,7 +30,10 @@ def ask_program(words, files):
 
 
 def ask_second(words, files):
-    """The same by the second evaluator or machine, of words that are a job; None of a command that they don't know."""
+    """The same by the second evaluator, machine or assembler, of words that are a job; None of a command that they
+    don't know."""
+    if words[0] in OF_ONE_FILE:
+        return ask_of_one_file(words, files)
     if words[0] not in ("mean", "exec"):
         return None
     options = dict(word[2:].split("=", 1) for word in words[1:] if word.startswith("--"))
@@ -39,6 +46,16 @@ def ask_second(words, files):
         return ask_machine(files[first], text, options, files, steps)
     written, status, _ = answer(files[first], text, options.get("set", "desk"), steps)
     return written, status
+
+
+def ask_of_one_file(words, files):
+    """By the assembler or the listing, whose one operand is a file."""
+    command, name = words
+    if name not in files:
+        return f"unread {name}\n".encode(), 3
+    if len(files[name]) > LIMIT:
+        return f"too long {name}\n".encode(), 13
+    return OF_ONE_FILE[command](files[name])
 
 
 def ask_machine(content, text, options, files, steps):

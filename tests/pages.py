@@ -6,13 +6,14 @@ fenced block without a word behind its fence, or with the word `hex`, is one of 
 
 - A session, which begins with `$ `. `$ echo WORDS > FILE` makes a file, and `$ echo WORDS >> FILE` puts a line at its end.
   `$ rnm WORDS` or `$ ./rnm WORDS` runs the program, and what it writes stands below; its status is 0, or it is shown by
-  `; echo $?` behind the words and is the last line.
+  `; echo $?` behind the words and is the last line. `$ rnm WORDS > FILE` puts what it writes in a file for later runs.
 - A file, for the next session: the one that is its first operand. With `hex` it is bytes in hexadecimal; `#` and what is
   behind it in a line is a comment.
 
 Besides, the files of a page's own folder are there, where that is a folder of examples; a block with the name of one of
 them must have its bytes. Blocks with another word behind the fence are of another kind (`ebnf`, `text`) and aren't run.
-With `--second` it asks the second evaluator and the second machines of tests/second, which know `mean` and `exec` alone.
+With `--second` it asks the second evaluator, machines and assembler of tests/second, which know `mean`, `exec`, `asm` and
+`list` alone.
 """
 import re
 import sys
@@ -30,14 +31,18 @@ SHOWS_STATUS = "; echo $?"
 
 
 class Run:
-    """A run of the program on a page: its line, its words, the files that are there, and the lines below it."""
+    """A run of the program on a page: its line, its words, the files that are there, the file that it makes, or None,
+    and the lines below it. A file that an earlier run makes is that run."""
 
     def __init__(self, line, words):
         self.line = line
         self.shows_status = words.endswith(SHOWS_STATUS)
-        self.words = words.removesuffix(SHOWS_STATUS).split()
+        words, _, made = words.removesuffix(SHOWS_STATUS).partition(" > ")
+        self.words = words.split()
+        self.made = made or None
         self.files = {}
         self.lines = []
+        self.written = None
 
     def first_operand(self):
         return next((word for word in self.words[1:] if not word.startswith("--")), None)
@@ -47,6 +52,19 @@ class Run:
         if self.shows_status:
             lines, status = lines[:-1], int(lines[-1])
         return "".join(f"{line}\n" for line in lines).encode(), status
+
+    def wrong(self, ask):
+        """How what is written, or the status, differs from what is wanted; None where there is no answer."""
+        told = ask(self.words, {name: content_in(file) for name, file in self.files.items()})
+        if told is None:
+            return None
+        if self.made is not None:
+            self.written, told = told[0], (b"", told[1])
+        return difference(told, self.wanted())
+
+
+def content_in(file):
+    return file.written if isinstance(file, Run) else file
 
 
 def blocks_of(text):
@@ -86,6 +104,8 @@ def runs_of_session(begin, lines, files, source):
             if source is not None and len(runs) == 1:
                 files[runs[0].first_operand()] = source
             runs[-1].files = dict(files)
+            if runs[-1].made is not None:
+                files[runs[-1].made] = runs[-1]
         elif not runs or line.startswith("$ "):
             raise SystemExit(f"line {number}: {line!r} is no line of a session")
         else:
@@ -120,12 +140,11 @@ def main(given):
     count = failed = 0
     for page in named or [*PAGES, *sorted(EXAMPLES.glob("*/README.md"))]:
         for run in runs_of(page):
-            told = ask(run.words, run.files)
-            if told is None:
+            wrong = run.wrong(ask)
+            if wrong is None:
                 continue
             count += 1
-            where = f"{page.relative_to(TOP)}:{run.line}: {' '.join(run.words)}"
-            failed += report(where, difference(told, run.wanted()))
+            failed += report(f"{page.relative_to(TOP)}:{run.line}: {' '.join(run.words)}", wrong)
     print(f"{count} examples of the pages")
     return 1 if failed else 0
 

@@ -271,6 +271,35 @@ fn objects_run_or_are_refused(rt: HostRuntime) -> Result<(), Fail> {
 }
 
 #[test]
+fn objects_are_listed_and_assembled(rt: HostRuntime) -> Result<(), Fail> {
+    let bytes = object();
+    let text = "set pocket\nLDI r0 42\nOUT r0\n";
+    let (status, written) = done(rt.alloc(), &["list", "a.src"], &bytes, &NONE)?;
+    assert_eq!(rt; status, Status::Ok);
+    assert_eq!(rt; written.as_slice(), text.as_bytes());
+    let (status, written) = done(rt.alloc(), &["asm", "a.src"], text.as_bytes(), &NONE)?;
+    assert_eq!(rt; status, Status::Ok);
+    assert_eq!(rt; written.as_slice(), bytes.as_slice());
+
+    let (status, written) = done(rt.alloc(), &["list", "a.src"], b"RNMO", &NONE)?;
+    assert_eq!(rt; status, Status::ObjectRefused);
+    assert_eq!(rt; written.as_slice(), b"refused object short 4\n".as_slice());
+    for (text, refusal) in [
+        ("", "line 1"),
+        ("set pocket\na: a: HALT\n", "line 2"),
+        ("set pocket\na: HALT\na: HALT\n", "twice-named 3"),
+        ("set pocket\nJMP away\n", "unknown-name 2"),
+        ("set pocket\nLDI r16 1\n", "unsound register 2"),
+    ] {
+        let (status, written) = done(rt.alloc(), &["asm", "a.src"], text.as_bytes(), &NONE)?;
+        assert_eq!(rt; status, Status::ObjectRefused, "{text}");
+        let wanted = format!(in rt.alloc(); "refused assembly {refusal}\n")?;
+        assert_eq!(rt; written.as_slice(), wanted.as_bytes(), "{text}");
+    }
+    Ok(())
+}
+
+#[test]
 fn files_are_refused(rt: HostRuntime) -> Result<(), Fail> {
     let missing = ["run", "b.src", "-", "--set=pocket"];
     let (status, written) = done(rt.alloc(), &missing, b"", &NONE)?;

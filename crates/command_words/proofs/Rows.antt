@@ -3,7 +3,7 @@ use Rattle.std.specs.Prelude.{◌≡◌, refl, ℕ, pos, negsuc, [], ◌∷◌, 
 use Rattle.moduli_sets.specs.declared.set_name.SetName.TheVariants.{Pocket, Desk, Hall}
 use Rattle.word_readers.specs.declared.operands.FileWord.{FileWord}
 use Rattle.word_readers.specs.Operands.{whole_word}
-use Rattle.command_words.specs.declared.job.Job.TheVariants.{Run, Exec, Decode, Encode, Mean, Set}
+use Rattle.command_words.specs.declared.job.Job.TheVariants.{Run, Exec, Asm, List as Listing, Decode, Encode, Mean, Set}
 use Rattle.command_words.specs.Words.{job_of_words}
 
 -- ---- jobs
@@ -45,6 +45,23 @@ faults_names : map job_of_words (
     ∷ (codes "exec" ∷ codes "a.rnm" ∷ codes "-" ∷ codes "--faults==" ∷ [])
     ∷ []) ≡ replicate 3 (Some (Exec (whole_word 1) None 1000000 (faults_in 3)))
 faults_names = refl
+
+-- one file each
+asm_row : job_of_words (codes "asm" ∷ codes "a.txt" ∷ []) ≡ Some (Asm (whole_word 1))
+asm_row = refl
+
+list_row : job_of_words (codes "list" ∷ codes "a.rnm" ∷ []) ≡ Some (Listing (whole_word 1))
+list_row = refl
+
+-- no file, `-` for one, one too many, and an option
+one_file_usage : map job_of_words (
+    (codes "asm" ∷ [])
+    ∷ (codes "asm" ∷ codes "-" ∷ [])
+    ∷ (codes "list" ∷ codes "a.rnm" ∷ codes "b" ∷ [])
+    ∷ (codes "list" ∷ codes "--set=desk" ∷ [])
+    ∷ (codes "asm" ∷ [] ∷ [])
+    ∷ []) ≡ replicate 5 None
+one_file_usage = refl
 
 set_row : job_of_words (codes "set" ∷ codes "desk" ∷ []) ≡ Some (Set Desk)
 set_row = refl

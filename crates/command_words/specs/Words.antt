@@ -13,7 +13,7 @@ use Rattle.word_readers.specs.declared.operands.FileWord.{FileWord}
 use Rattle.word_readers.specs.Operands.{IsFileWord, file_and_input, file_option, named_file, operands_of}
 use Rattle.word_readers.specs.Options.{OptionTable, has_only_options, option_of, values_of}
 use Rattle.command_words.specs.declared.job.Job.{Job}
-use Rattle.command_words.specs.declared.job.Job.TheVariants.{Run, Exec, Decode, Encode, Mean, Set}
+use Rattle.command_words.specs.declared.job.Job.TheVariants.{Run, Exec, Asm, List as Listing, Decode, Encode, Mean, Set}
 
 -- `run SOURCE - --set=pocket`, the words in this order
 abbrev pub run_job : List (List ℕ) → Option Job
@@ -74,11 +74,26 @@ exec_job words =
     (faults_option words)) (steps_option words)) (file_and_input (operands_of words))
     else None
 
+-- the file that the one word after the command names
+abbrev pub only_file : List (List ℕ) → Option FileWord
+only_file (command ∷ (file ∷ [])) = named_file (1, file)
+only_file words = None
+
+-- `asm TEXT`
+abbrev pub asm_job : List (List ℕ) → Option Job
+asm_job words = option_map Asm (only_file words)
+
+-- `list OBJECT`
+abbrev pub list_job : List (List ℕ) → Option Job
+list_job words = option_map Listing (only_file words)
+
 -- the job that words ask for, by their command; none where they are a usage fault
 abbrev pub job_of_command : List ℕ → List (List ℕ) → Option Job
 job_of_command command words =
     if bytes_eq command (codes "run") then run_job words
     else if bytes_eq command (codes "exec") then exec_job words
+    else if bytes_eq command (codes "asm") then asm_job words
+    else if bytes_eq command (codes "list") then list_job words
     else if bytes_eq command (codes "decode") then decode_job words
     else if bytes_eq command (codes "encode") then encode_job words
     else if bytes_eq command (codes "mean") then mean_job words
@@ -94,6 +109,8 @@ abbrev pub HoldsOf : List (List ℕ) → Job → Type 0
 HoldsOf words (Run source) = IsFileWord words source
 HoldsOf words (Exec object input steps faults) =
     IsFileWord words object × IfSome input (IsFileWord words) × (steps ≤ 1000000000) × IfSome faults (IsFileWord words)
+HoldsOf words (Asm text) = IsFileWord words text
+HoldsOf words (Listing object) = IsFileWord words object
 HoldsOf words (Decode set residues) = AreResidues (set_of_name set).moduli residues
 HoldsOf words (Encode set x) = IsInRange (set_of_name set) x
 HoldsOf words (Mean source input set steps) = IsFileWord words source × IfSome input (IsFileWord words)

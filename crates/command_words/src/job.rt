@@ -15,6 +15,14 @@ pub enum Job {
         steps: u64,
         faults: Option<FileWord>,
     },
+    /// Print the object that an assembly text spells.
+    Asm {
+        text: FileWord,
+    },
+    /// Print the listing of an object.
+    List {
+        object: FileWord,
+    },
     /// Print what a vector stands for. It has one residue for each channel, below its modulus.
     Decode {
         set: SetName,

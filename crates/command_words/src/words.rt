@@ -1,11 +1,12 @@
 ghost use Rattle.std.specs.Prelude.{◌≡◌, ◌≤◌, IfSome, map, string_bytes};
-ghost use Rattle.command_words.specs.Words.{HoldsOf, decode_job, encode_job, exec_job, job_of_words, mean_job, run_job, set_job, set_option, steps_option};
+ghost use Rattle.word_readers.specs.Operands.{IsFileWord};
+ghost use Rattle.command_words.specs.Words.{HoldsOf, asm_job, decode_job, encode_job, exec_job, job_of_words, list_job, mean_job, only_file, run_job, set_job, set_option, steps_option};
 
 use crate::Job;
 use moduli_sets::{Moduli, SetName};
 use word_readers::{
-    OptionKind, OptionRow, file_and_input, file_option, has_only_options, integer_in_range,
-    named_file, option_value, residues_in, steps_in,
+    FileWord, OptionKind, OptionRow, file_and_input, file_option, has_only_options,
+    integer_in_range, named_file, option_value, residues_in, steps_in,
 };
 
 /// The options of `mean`.
@@ -29,6 +30,8 @@ pub fn job_of(words: &[String]) -> Option<Job>
     match command.as_str() {
         "run" => run_job(words),
         "exec" => exec_job(words),
+        "asm" => asm_job(words),
+        "list" => list_job(words),
         "decode" => decode_job(words),
         "encode" => encode_job(words),
         "mean" => mean_job(words),
@@ -69,6 +72,35 @@ fn exec_job(words: &[String]) -> Option<Job>
         steps,
         faults,
     })
+}
+
+/// `asm TEXT`.
+fn asm_job(words: &[String]) -> Option<Job>
+    ensures value { result ≡ asm_job (map string_bytes words.now) }
+    ensures holds { IfSome result (HoldsOf (map string_bytes words.now)) }
+{
+    let text = only_file(words)?;
+    Some(Job::Asm { text })
+}
+
+/// `list OBJECT`.
+fn list_job(words: &[String]) -> Option<Job>
+    ensures value { result ≡ list_job (map string_bytes words.now) }
+    ensures holds { IfSome result (HoldsOf (map string_bytes words.now)) }
+{
+    let object = only_file(words)?;
+    Some(Job::List { object })
+}
+
+/// The file that the one word after the command names.
+fn only_file(words: &[String]) -> Option<FileWord>
+    ensures value { result ≡ only_file (map string_bytes words.now) }
+    ensures within { IfSome result (IsFileWord (map string_bytes words.now)) }
+{
+    let [_, _] = words else {
+        return None;
+    };
+    named_file(words, 1)
 }
 
 /// `decode SET RESIDUE ..`, one residue for each channel.

@@ -10,10 +10,12 @@ use Rattle.source_reader.specs.declared.fault.SourceKind.TheVariants.{Byte, Long
 use Rattle.word_readers.specs.Operands.{IsFileWord, file_name}
 use Rattle.job_endings.specs.declared.status.Status.{Status}
 use Rattle.job_endings.specs.declared.status.Status.TheVariants as status
+use Rattle.job_endings.specs.declared.assembly_kind.AssemblyKind.{AssemblyKind}
+use Rattle.job_endings.specs.declared.assembly_kind.AssemblyKind.TheVariants.{BadLine, TwiceNamed, UnknownName as UnnamedTarget, Unsound as UnsoundLine}
 use Rattle.job_endings.specs.declared.object_kind.ObjectKind.{ObjectKind}
 use Rattle.job_endings.specs.declared.object_kind.ObjectKind.TheVariants.{Short, Magic, Version, Set, Long, Record, Unsound}
 use Rattle.job_endings.specs.declared.refusal.Refusal.{Refusal}
-use Rattle.job_endings.specs.declared.refusal.Refusal.TheVariants.{Usage, Unread, TooLong, Source, Object, Input, Faults}
+use Rattle.job_endings.specs.declared.refusal.Refusal.TheVariants.{Usage, Unread, TooLong, Source, Object, Assembly, Input, Faults}
 use Rattle.job_endings.specs.declared.refusal.Stop.{Stop}
 use Rattle.job_endings.specs.declared.refusal.Stop.TheVariants.{Refused, NoMemory}
 
@@ -37,15 +39,25 @@ kind_text Unbuilt = codes "unbuilt"
 abbrev pub source_line : SourceFault → List ℕ
 source_line fault = codes "refused source " ++ kind_text fault.kind ++ codes " " ++ decimal fault.line
 
--- the rule that a program breaks, as it is printed, and the number of the instruction or data word that breaks it
-abbrev pub fault_told : ObjectFault → List ℕ
-fault_told TooMuchCode = codes "code " ++ decimal 0
-fault_told TooMuchData = codes "data " ++ decimal 0
-fault_told (BadRegister n) = codes "register " ++ decimal n
-fault_told (BadTarget n) = codes "target " ++ decimal n
-fault_told (BadAddress n) = codes "address " ++ decimal n
-fault_told (BadConstant n) = codes "constant " ++ decimal n
-fault_told (BadDatum n) = codes "datum " ++ decimal n
+-- the rule that a program breaks, as it is printed
+abbrev pub rule_text : ObjectFault → List ℕ
+rule_text TooMuchCode = codes "code "
+rule_text TooMuchData = codes "data "
+rule_text (BadRegister n) = codes "register "
+rule_text (BadTarget n) = codes "target "
+rule_text (BadAddress n) = codes "address "
+rule_text (BadConstant n) = codes "constant "
+rule_text (BadDatum n) = codes "datum "
+
+-- the number of the instruction or data word that breaks it
+abbrev pub number_in : ObjectFault → ℕ
+number_in TooMuchCode = 0
+number_in TooMuchData = 0
+number_in (BadRegister n) = n
+number_in (BadTarget n) = n
+number_in (BadAddress n) = n
+number_in (BadConstant n) = n
+number_in (BadDatum n) = n
 
 -- what is wrong with an object, as it is printed
 abbrev pub object_text : ObjectKind → List ℕ
@@ -55,10 +67,20 @@ object_text (Version version) = codes "version " ++ decimal version
 object_text (Set set) = codes "set " ++ decimal set
 object_text (Long surplus) = codes "long " ++ decimal surplus
 object_text (Record place) = codes "record " ++ decimal place
-object_text (Unsound fault) = codes "unsound " ++ fault_told fault
+object_text (Unsound fault) = codes "unsound " ++ rule_text fault ++ decimal (number_in fault)
 
 abbrev pub object_line : ObjectKind → List ℕ
 object_line kind = codes "refused object " ++ object_text kind
+
+-- what is wrong with an assembly text, as it is printed; a rule of programs that is broken is told with its line
+abbrev pub assembly_text : AssemblyKind → List ℕ
+assembly_text (BadLine n) = codes "line " ++ decimal n
+assembly_text (TwiceNamed n) = codes "twice-named " ++ decimal n
+assembly_text (UnnamedTarget n) = codes "unknown-name " ++ decimal n
+assembly_text (UnsoundLine fault n) = codes "unsound " ++ rule_text fault ++ decimal n
+
+abbrev pub assembly_line : AssemblyKind → List ℕ
+assembly_line kind = codes "refused assembly " ++ assembly_text kind
 
 -- the line of a refusal; a file is named as the words name it
 abbrev pub refusal_line : List (List ℕ) → Refusal → List ℕ
@@ -67,6 +89,7 @@ refusal_line words (Unread file) = line (codes "unread " ++ file_name words file
 refusal_line words (TooLong file) = line (codes "too long " ++ file_name words file)
 refusal_line words (Source fault) = line (source_line fault)
 refusal_line words (Object kind) = line (object_line kind)
+refusal_line words (Assembly kind) = line (assembly_line kind)
 refusal_line words (Input place) = line (codes "refused input " ++ decimal place)
 refusal_line words (Faults n) = line (codes "refused faults " ++ decimal n)
 
@@ -76,6 +99,7 @@ refusal_status (Unread file) = status.Unread
 refusal_status (TooLong file) = status.TooLong
 refusal_status (Source fault) = status.SourceRefused
 refusal_status (Object kind) = status.ObjectRefused
+refusal_status (Assembly kind) = status.ObjectRefused
 refusal_status (Input place) = status.InputRefused
 refusal_status (Faults n) = status.PlanRefused
 
@@ -86,6 +110,7 @@ names_file (Unread file) = true
 names_file (TooLong file) = true
 names_file (Source fault) = false
 names_file (Object kind) = false
+names_file (Assembly kind) = false
 names_file (Input place) = false
 names_file (Faults n) = false
 
@@ -96,6 +121,7 @@ IsOfWords words (Unread file) = IsFileWord words file
 IsOfWords words (TooLong file) = IsFileWord words file
 IsOfWords words (Source fault) = Unit {0}
 IsOfWords words (Object kind) = Unit {0}
+IsOfWords words (Assembly kind) = Unit {0}
 IsOfWords words (Input place) = Unit {0}
 IsOfWords words (Faults n) = Unit {0}
 

@@ -1,3 +1,4 @@
+ghost use Rattle.std.specs.Prelude.{[], ◌∷◌};
 ghost use Rattle.job_endings.specs.Endings.{EndsPut};
 
 use crate::status::Status;
@@ -15,4 +16,14 @@ pub fn put_lines<K: Sink>(sink: &mut K, lines: &[Line], status: Status) -> Statu
         }
     }
     status
+}
+
+/// Puts one piece, and ends with a status.
+pub fn put_piece<K: Sink>(sink: &mut K, piece: &[u8], status: Status) -> Status
+    ensures { EndsPut K.puts K.state sink.old (piece.now ∷ []) status result sink.new }
+{
+    match sink.put(piece) {
+        Put::Done => status,
+        Put::Failed => Status::Unwritten,
+    }
 }

@@ -1,7 +1,7 @@
 ghost use Rattle.std.specs.Prelude.{◌≡◌, ◌≤◌, ◌++◌, codes, length};
 ghost use Rattle.std.specs.Fmt.{decimal};
 ghost use Rattle.number_text.specs.Lines.{line};
-ghost use Rattle.job_endings.specs.Refusals.{fault_told, object_line};
+ghost use Rattle.job_endings.specs.Refusals.{number_in, object_line, rule_text};
 
 use machine_table::ObjectFault;
 use number_text::Line;
@@ -42,16 +42,41 @@ pub(crate) fn object_line(kind: ObjectKind) -> Line
 
 /// The line `refused object unsound FAULT N`.
 fn unsound_line(fault: ObjectFault) -> Line
-    ensures { result ≡ line (codes "refused object unsound " ++ fault_told fault) }
+    ensures { result ≡ line (codes "refused object unsound " ++ rule_text fault ++ decimal (number_in fault)) }
+{
+    Line::of(b"refused object unsound ")
+        .text(rule_text(fault))
+        .count(u64::from(number_in(fault)))
+        .end()
+}
+
+/// The rule that a program breaks, as it is printed.
+pub(crate) fn rule_text(fault: ObjectFault) -> &'static [u8]
+    ensures value { result.now ≡ rule_text fault }
+    ensures short { length result.now ≤ 20 }
 {
     match fault {
-        ObjectFault::TooMuchCode => numbered_line(b"unsound code ", 0),
-        ObjectFault::TooMuchData => numbered_line(b"unsound data ", 0),
-        ObjectFault::BadRegister(n) => numbered_line(b"unsound register ", u64::from(n)),
-        ObjectFault::BadTarget(n) => numbered_line(b"unsound target ", u64::from(n)),
-        ObjectFault::BadAddress(n) => numbered_line(b"unsound address ", u64::from(n)),
-        ObjectFault::BadConstant(n) => numbered_line(b"unsound constant ", u64::from(n)),
-        ObjectFault::BadDatum(n) => numbered_line(b"unsound datum ", u64::from(n)),
+        ObjectFault::TooMuchCode => b"code ",
+        ObjectFault::TooMuchData => b"data ",
+        ObjectFault::BadRegister(_) => b"register ",
+        ObjectFault::BadTarget(_) => b"target ",
+        ObjectFault::BadAddress(_) => b"address ",
+        ObjectFault::BadConstant(_) => b"constant ",
+        ObjectFault::BadDatum(_) => b"datum ",
+    }
+}
+
+/// The number of the instruction or data word that breaks a rule of programs, and 0 where there are too many.
+fn number_in(fault: ObjectFault) -> u32
+    ensures { result ≡ number_in fault }
+{
+    match fault {
+        ObjectFault::TooMuchCode | ObjectFault::TooMuchData => 0,
+        ObjectFault::BadRegister(n)
+        | ObjectFault::BadTarget(n)
+        | ObjectFault::BadAddress(n)
+        | ObjectFault::BadConstant(n)
+        | ObjectFault::BadDatum(n) => n,
     }
 }
 

@@ -5,11 +5,12 @@ ghost use Rattle.word_readers.specs.Operands.{IsFileWord, file_name};
 ghost use Rattle.job_endings.specs.Endings.{EndsPut, EndsWith};
 ghost use Rattle.job_endings.specs.Refusals.{IsOfWords, names_file, refusal_line, refusal_status, source_line};
 
-use crate::lines::put_lines;
+use crate::assembly_kind::{AssemblyKind, assembly_line};
+use crate::lines::{put_lines, put_piece};
 use crate::object_kind::{ObjectKind, object_line};
 use crate::status::Status;
 use number_text::Line;
-use outside::{Put, Sink};
+use outside::Sink;
 use source_reader::{SourceFault, SourceKind};
 use std::alloc::{AllocError, Global};
 use word_readers::{FileWord, name_of};
@@ -27,6 +28,8 @@ pub enum Refusal {
     Source(SourceFault),
     /// The object is refused.
     Object(ObjectKind),
+    /// The assembly text is refused.
+    Assembly(AssemblyKind),
     /// The first word of the input that is no whole number stands at this place, counted in bytes from 0.
     Input(usize),
     /// The first line of the faults that breaks a rule has this number, counted from 1.
@@ -76,6 +79,7 @@ pub fn put_refusal<K: Sink>(
         }
         Refusal::Source(fault) => put_lines(sink, &[source_line(fault)], Status::SourceRefused),
         Refusal::Object(kind) => put_lines(sink, &[object_line(kind)], Status::ObjectRefused),
+        Refusal::Assembly(kind) => put_lines(sink, &[assembly_line(kind)], Status::ObjectRefused),
         Refusal::Input(place) => put_lines(sink, &[input_line(place)], Status::InputRefused),
         Refusal::Faults(n) => put_lines(sink, &[faults_line(n)], Status::PlanRefused),
     }
@@ -92,10 +96,7 @@ fn put_file_line<K: Sink>(
     ensures { EndsWith K.puts K.state sink.old (line (text.now ++ name.now) ∷ []) status result sink.new }
 {
     match file_line(alloc, text, name) {
-        Ok(line) => match sink.put(line.as_slice()) {
-            Put::Done => status,
-            Put::Failed => Status::Unwritten,
-        },
+        Ok(line) => put_piece(sink, line.as_slice(), status),
         Err(_) => Status::NoMemory,
     }
 }

@@ -10,7 +10,7 @@ use Rattle.command_words.specs.Words.{job_of_words}
 use Rattle.job_endings.specs.declared.status.Status.{Status}
 use Rattle.job_endings.specs.declared.status.Status.TheVariants as status
 use Rattle.job_endings.specs.declared.refusal.Refusal.{Refusal}
-use Rattle.job_endings.specs.declared.refusal.Refusal.TheVariants.{Usage, Unread, TooLong, Source, Object, Input, Faults}
+use Rattle.job_endings.specs.declared.refusal.Refusal.TheVariants.{Usage, Unread, TooLong, Source, Object, Assembly, Input, Faults}
 use Rattle.job_endings.specs.declared.refusal.Stop.{Stop}
 use Rattle.job_endings.specs.declared.refusal.Stop.TheVariants.{Refused, NoMemory}
 use Rattle.job_endings.specs.Refusals.{refusal_status}
@@ -45,6 +45,7 @@ own_is_final (refused (Unread file)) h = refl
 own_is_final (refused (TooLong file)) h = refl
 own_is_final (refused (Source fault)) h = refl
 own_is_final (refused (Object kind)) h = refl
+own_is_final (refused (Assembly kind)) h = refl
 own_is_final (refused (Input place)) h = refl
 own_is_final (refused (Faults n)) h = refl
 
@@ -54,6 +55,7 @@ refusal_is_final (Unread file) = refl
 refusal_is_final (TooLong file) = refl
 refusal_is_final (Source fault) = refl
 refusal_is_final (Object kind) = refl
+refusal_is_final (Assembly kind) = refl
 refusal_is_final (Input place) = refl
 refusal_is_final (Faults n) = refl
 
@@ -72,6 +74,7 @@ own_is_read (refused (Unread file)) h e = cc
 own_is_read (refused (TooLong file)) h e = cc
 own_is_read (refused (Source fault)) h e = cc
 own_is_read (refused (Object kind)) h e = cc
+own_is_read (refused (Assembly kind)) h e = cc
 own_is_read (refused (Input place)) h e = cc
 own_is_read (refused (Faults n)) h e = cc
 
@@ -81,6 +84,7 @@ unread_names (Unread file) e = (file, refl)
 unread_names (TooLong file) e = absurd (cc)
 unread_names (Source fault) e = absurd (cc)
 unread_names (Object kind) e = absurd (cc)
+unread_names (Assembly kind) e = absurd (cc)
 unread_names (Input place) e = absurd (cc)
 unread_names (Faults n) e = absurd (cc)
 

@@ -29,30 +29,7 @@ own_run pieces (trap kind line) = refl
 own_run pieces (damage number column) = refl
 own_run pieces spent = refl
 
-module _ {K : Type 0} (puts : K → List ℕ → K → Type 0) (state : K → SinkState) (old : K) (steps : ℕ) (bytes input faults : List ℕ) where
-  faulty : (fault : LoadFault) (refusal : Refusal) → stop_of_load fault ≡ Refused refusal → is_own (refused refusal) ≡ true → load_fault bytes ≡ Some fault
-      → Does puts state old (IsOwn (IsExecAnswer steps bytes input faults)) (Err (Refused refusal)) old
-  faulty fault refusal stop own first = ((inl (fault, refusal, first, stop, refl), own), refl)
-
-  -- the object is refused, or there was no memory
-  pub refuses : (fault : LoadFault) → IsRefusal (load_fault bytes) fault → Does puts state old (IsOwn (IsExecAnswer steps bytes input faults)) (Err (stop_of_load fault)) old
-  refuses (load.Short length) h = elim h [ inl memory ↦ cc | inr first ↦ faulty (load.Short length) _ refl refl first ]
-  refuses load.BadMagic h = elim h [ inl memory ↦ cc | inr first ↦ faulty load.BadMagic _ refl refl first ]
-  refuses (load.BadVersion version) h = elim h [ inl memory ↦ cc | inr first ↦ faulty (load.BadVersion version) _ refl refl first ]
-  refuses (load.BadSet set) h = elim h [ inl memory ↦ cc | inr first ↦ faulty (load.BadSet set) _ refl refl first ]
-  refuses (load.Long surplus) h = elim h [ inl memory ↦ cc | inr first ↦ faulty (load.Long surplus) _ refl refl first ]
-  refuses (load.BadRecord place) h = elim h [ inl memory ↦ cc | inr first ↦ faulty (load.BadRecord place) _ refl refl first ]
-  refuses (load.Unsound fault) h = elim h [ inl memory ↦ cc | inr first ↦ faulty (load.Unsound fault) _ refl refl first ]
-  refuses load.NoMemory h = refl
-
-  -- the object is loaded, and answered
-  pub loaded : (program : Program) → load_fault bytes ≡ None → program_in bytes ≡ program → (result : Result Status Stop) (new : K)
-      → Does puts state old (IsOwn (IsInputAnswer input (IsProgramAnswer steps program faults))) result new → Does puts state old (IsOwn (IsExecAnswer steps bytes input faults)) result new
-  loaded program none is result new does =
-      let Own : Program → Type 0 = λ p. Does puts state old (IsOwn (IsInputAnswer input (IsProgramAnswer steps p faults))) result new in
-      Does-as puts state [] old (IsOwn (IsInputAnswer input (IsProgramAnswer steps (program_in bytes) faults))) (IsOwn (IsExecAnswer steps bytes input faults))
-      (λ answer (answers, own). (inr (none, answers), own)) result new (subst Own (sym is) does)
-
+module _ {K : Type 0} (puts : K → List ℕ → K → Type 0) (state : K → SinkState) (old : K) (steps : ℕ) (input faults : List ℕ) where
   module _ (program : Program) (numbers : List ℤ) where
     -- the input's numbers are read, and answered
     pub read_in : AreNumbers (input_words input) numbers → (result : Result Status Stop) (new : K)

@@ -1,3 +1,4 @@
 mod AnswerLemmas
 mod ExecLemmas
 mod MeanLemmas
+mod ObjectLemmas

@@ -14,7 +14,7 @@ use Rattle.source_reader.specs.declared.fault.SourceFault.{SourceFault}
 use Rattle.source_reader.specs.declared.fault.SourceKind.TheVariants.{Unbuilt}
 use Rattle.source_reader.specs.Reading.{IsFirstFault, IsProgramOf}
 use Rattle.command_words.specs.declared.job.Job.{Job}
-use Rattle.command_words.specs.declared.job.Job.TheVariants.{Run, Decode, Encode, Exec, Mean, Set}
+use Rattle.command_words.specs.declared.job.Job.TheVariants.{Run, Decode, Encode, Exec, Asm, List as Listing, Mean, Set}
 use Rattle.word_readers.specs.declared.operands.FileWord.{FileWord}
 use Rattle.moduli_sets.specs.Name.{set_of_name}
 use Rattle.moduli_sets.specs.Set.{radius}
@@ -23,7 +23,8 @@ use Rattle.redundant_decoder.specs.Verdict.{IsVerdict}
 use Rattle.job_endings.specs.declared.status.Status.{Status}
 use Rattle.job_endings.specs.declared.status.Status.TheVariants as status
 use Rattle.job_endings.specs.declared.refusal.Refusal.{Refusal}
-use Rattle.job_endings.specs.declared.refusal.Refusal.TheVariants.{Source, Object, Input, Faults}
+use Rattle.job_endings.specs.declared.refusal.Refusal.TheVariants.{Source, Object, Assembly, Input, Faults}
+use Rattle.job_endings.specs.declared.assembly_kind.AssemblyKind.TheVariants as assembly
 use Rattle.job_endings.specs.declared.object_kind.ObjectKind.TheVariants as kind
 use Rattle.job_endings.specs.declared.refusal.Stop.{Stop}
 use Rattle.job_endings.specs.declared.refusal.Stop.TheVariants.{Refused, NoMemory}
@@ -35,10 +36,16 @@ use Rattle.job_endings.specs.Refusals.{names_file, refusal_line, refusal_status}
 use Rattle.object_bytes.specs.declared.fault.LoadFault.{LoadFault}
 use Rattle.object_bytes.specs.declared.fault.LoadFault.TheVariants as load
 use Rattle.object_bytes.specs.Loading.{Program as ObjectProgram, load_fault, program_in}
+use Rattle.object_bytes.specs.Spelling.{bytes_of}
 use Rattle.fault_book.specs.Book.{Book}
 use Rattle.fault_book.specs.FaultText.{book_faults, entries_of}
 use Rattle.fault_book.specs.declared.reading.BookFault.{BookFault}
 use Rattle.fault_book.specs.declared.reading.BookFault.TheVariants as book
+use Rattle.machine_table.specs.Faults.{object_fault}
+use Rattle.assembler.specs.declared.fault.AsmFault.{AsmFault}
+use Rattle.assembler.specs.declared.fault.AsmFault.TheVariants as asm
+use Rattle.assembler.specs.Assembly.{IsRefusal, Spells}
+use Rattle.assembler.specs.Listing.{listing}
 use Rattle.object_runs.specs.RunText.{run_lines, run_status, trace_of}
 use Rattle.set_commands.specs.Decode.{verdict_lines, verdict_status}
 use Rattle.set_commands.specs.Sets.{encode_lines, set_lines}
@@ -67,6 +74,7 @@ is_own (lines puts status.Spent) = true
 is_own (lines puts status) = false
 is_own (refused (Source fault)) = true
 is_own (refused (Object kind)) = true
+is_own (refused (Assembly kind)) = true
 is_own (refused (Input place)) = true
 is_own (refused (Faults n)) = true
 is_own (refused refusal) = false
@@ -81,6 +89,8 @@ files_of_job (Run source) = Some source ∷ []
 files_of_job (Decode set residues) = []
 files_of_job (Encode set x) = []
 files_of_job (Exec object input steps faults) = Some object ∷ (input ∷ (faults ∷ []))
+files_of_job (Asm text) = Some text ∷ []
+files_of_job (Listing object) = Some object ∷ []
 files_of_job (Mean source input set steps) = Some source ∷ (input ∷ [])
 files_of_job (Set set) = []
 
@@ -92,6 +102,8 @@ takes_no_memory (Some (Run source)) = false
 takes_no_memory (Some (Decode set residues)) = true
 takes_no_memory (Some (Encode set x)) = true
 takes_no_memory (Some (Exec object input steps faults)) = false
+takes_no_memory (Some (Asm text)) = false
+takes_no_memory (Some (Listing object)) = false
 takes_no_memory (Some (Mean source input set steps)) = false
 takes_no_memory (Some (Set set)) = true
 
@@ -179,11 +191,44 @@ IsProgramAnswer steps program faults numbers answer =
     × (stop_of_book fault ≡ Refused refusal) × (answer ≡ refused refusal))
     ⊎ ((refusals ≡ []) × (answer ≡ run_answer steps program numbers (from_entries (entries_of faults))))
 
--- an object is refused by its first fault, and otherwise runs on the input
+-- an object is refused by its first fault, and otherwise answered by its program
+abbrev pub IsObjectAnswer : List ℕ → (ObjectProgram → Answer → Type 0) → Answer → Type 0
+IsObjectAnswer object Is answer =
+    ((fault : LoadFault) × (refusal : Refusal) × (load_fault object ≡ Some fault) × (stop_of_load fault ≡ Refused refusal) × (answer ≡ refused refusal))
+    ⊎ ((load_fault object ≡ None) × Is (program_in object) answer)
+
+-- the program of an object runs on the input
 abbrev pub IsExecAnswer : ℕ → List ℕ → List ℕ → List ℕ → Answer → Type 0
 IsExecAnswer steps object input faults answer =
-    ((fault : LoadFault) × (refusal : Refusal) × (load_fault object ≡ Some fault) × (stop_of_load fault ≡ Refused refusal) × (answer ≡ refused refusal))
-    ⊎ ((load_fault object ≡ None) × IsInputAnswer input (IsProgramAnswer steps (program_in object) faults) answer)
+    IsObjectAnswer object (λ program. IsInputAnswer input (IsProgramAnswer steps program faults)) answer
+
+-- the listing of a program
+abbrev pub listing_of : ObjectProgram → List ℕ
+listing_of program = listing program.set program.code program.words
+
+-- the program of an object is listed, in one piece
+abbrev pub IsListAnswer : List ℕ → Answer → Type 0
+IsListAnswer object answer = IsObjectAnswer object (λ program answer. answer ≡ lines (listing_of program ∷ []) status.Ok) answer
+
+-- why a job stops whose assembly text is refused, or found no memory
+abbrev pub stop_of_assembly : AsmFault → Stop
+stop_of_assembly (asm.BadLine n) = Refused (Assembly (assembly.BadLine n))
+stop_of_assembly (asm.TwiceNamed n) = Refused (Assembly (assembly.TwiceNamed n))
+stop_of_assembly (asm.UnknownName n) = Refused (Assembly (assembly.UnknownName n))
+stop_of_assembly (asm.Unsound fault n) = Refused (Assembly (assembly.Unsound fault n))
+stop_of_assembly asm.NoMemory = NoMemory
+
+-- the bytes of a program
+abbrev pub bytes_of_program : ObjectProgram → List ℕ
+bytes_of_program program = bytes_of program.set program.code program.words
+
+-- A text spells a program that breaks no rule, and its bytes are put, in one piece; or it is refused.
+abbrev pub IsAsmAnswer : List ℕ → Answer → Type 0
+IsAsmAnswer text answer =
+    ((fault : AsmFault) × (refusal : Refusal) × IsRefusal text fault × (stop_of_assembly fault ≡ Refused refusal) × (answer ≡ refused refusal))
+    ⊎ ((program : ObjectProgram) × Spells text program.set program.code program.words
+    × (object_fault (set_of_name program.set) program.code program.words ≡ None)
+    × (answer ≡ lines (bytes_of_program program ∷ []) status.Ok))
 
 -- the answer of a job to its texts, in the order of its files
 abbrev pub IsDone : Job → List (List ℕ) → Answer → Type 0
@@ -194,6 +239,8 @@ IsDone (Decode set residues) texts answer =
 IsDone (Encode set x) texts answer = answer ≡ lines (encode_lines (set_of_name set) x) status.Ok
 IsDone (Exec object input steps faults) texts answer =
     IsExecAnswer steps (text_at texts 0) (text_at texts 1) (text_at texts 2) answer
+IsDone (Asm text) texts answer = IsAsmAnswer (text_at texts 0) answer
+IsDone (Listing object) texts answer = IsListAnswer (text_at texts 0) answer
 IsDone (Mean source input set steps) texts answer = IsMeanAnswer set steps (text_at texts 0) (text_at texts 1) answer
 IsDone (Set set) texts answer = answer ≡ lines (set_lines (set_of_name set)) status.Ok
 

@@ -13,6 +13,9 @@ pub use Rattle.thin_source.specs.ThinTree
 pub use Rattle.thin_source.specs.ThinMeaning
 pub use Rattle.source_reader.specs.Reading
 pub use Rattle.object_bytes.specs.Loading
+pub use Rattle.object_bytes.specs.Spelling
+pub use Rattle.assembler.specs.Assembly
+pub use Rattle.assembler.specs.Listing
 pub use Rattle.fault_book.specs.FaultText
 pub use Rattle.object_runs.specs.RunText
 pub use Rattle.job_endings.specs.StatusNumber

@@ -2,14 +2,15 @@
 ghost use Rattle.std.specs.Prelude.{◌≡◌, ◌≤◌, length};
 ghost use Rattle.job_endings.specs.Files.{file_limit};
 ghost use Rattle.object_bytes.specs.Programs.{program_of};
-ghost use Rattle.rnm_engine.specs.Jobs.{Does, IsExecAnswer, IsInputAnswer, IsOwn, IsProgramAnswer, run_answer, stop_of_book, stop_of_load};
+ghost use Rattle.rnm_engine.specs.Jobs.{Does, IsExecAnswer, IsInputAnswer, IsOwn, IsProgramAnswer, run_answer};
 
-use fault_book::{BookFault, Faults};
-use job_endings::{ObjectKind, Refusal, Status, Stop};
+use crate::stops::{stop_of_book, stop_of_load};
+use fault_book::Faults;
+use job_endings::{Refusal, Status, Stop};
 use machine_table::Object;
 use moduli_sets::Moduli;
 use number_text::{InputFault, read_numbers};
-use object_bytes::{LoadFault, read};
+use object_bytes::read;
 use outside::Sink;
 use std::alloc::Global;
 
@@ -29,25 +30,8 @@ pub fn exec<K: Sink>(
 {
     match read(alloc, object) {
         Ok(object) => exec_on(alloc, &object, input, faults, steps, sink),
-        Err(fault) => Err(stop_of(fault)),
+        Err(fault) => Err(stop_of_load(fault)),
     }
-}
-
-/// Why a job stops whose object has a fault, or found no memory.
-fn stop_of(fault: LoadFault) -> Stop
-    ensures { result ≡ stop_of_load fault }
-{
-    let kind = match fault {
-        LoadFault::Short(length) => ObjectKind::Short(length),
-        LoadFault::BadMagic => ObjectKind::Magic,
-        LoadFault::BadVersion(version) => ObjectKind::Version(version),
-        LoadFault::BadSet(set) => ObjectKind::Set(set),
-        LoadFault::Long(surplus) => ObjectKind::Long(surplus),
-        LoadFault::BadRecord(place) => ObjectKind::Record(place),
-        LoadFault::Unsound(fault) => ObjectKind::Unsound(fault),
-        LoadFault::NoMemory => return Stop::NoMemory,
-    };
-    Stop::Refused(Refusal::Object(kind))
 }
 
 /// Runs an object on the numbers of an input text, or refuses the input, or else the faults.
@@ -85,19 +69,7 @@ fn exec_with<K: Sink>(
 {
     match Faults::read(alloc, &Moduli::of(object.set()), faults) {
         Ok(book) => run_object(alloc, object, numbers, book, steps, sink),
-        Err(fault) => Err(stop_of_faults(fault)),
-    }
-}
-
-/// Why a job stops whose faults are refused, or found no memory.
-fn stop_of_faults(fault: BookFault) -> Stop
-    ensures { result ≡ stop_of_book fault }
-{
-    match fault {
-        BookFault::BadLine(n) | BookFault::UnknownChannel(n) | BookFault::Twice(n) => {
-            Stop::Refused(Refusal::Faults(n))
-        }
-        BookFault::NoMemory => Stop::NoMemory,
+        Err(fault) => Err(stop_of_book(fault)),
     }
 }
 

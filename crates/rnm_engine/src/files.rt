@@ -25,6 +25,8 @@ pub fn files_of(job: &Job) -> ArrayVec<Option<FileWord>, MOST_FILES>
             files.push(*input);
             files.push(*faults);
         }
+        Job::Asm { text } => files.push(Some(*text)),
+        Job::List { object } => files.push(Some(*object)),
         Job::Mean { source, input, .. } => {
             files.push(Some(*source));
             files.push(*input);

@@ -6,10 +6,13 @@
 //! `main` over this call. Its tests stand in `command_tests`.
 #![tactic(auto)]
 
+mod asm;
 mod exec;
 mod files;
+mod list;
 mod mean;
 mod run;
+mod stops;
 mod top_call;
 
 pub use job_endings::Status;

@@ -7,8 +7,10 @@ ghost use Rattle.job_endings.specs.Refusals.{IsStopOfWords};
 ghost use Rattle.rnm_engine.specs.Jobs.{Does, IsDone, IsOwn, TakesNone, takes_no_memory};
 ghost use Rattle.rnm_engine.specs.Answer.{IsAnswer, IsAnswered, IsComplete, IsFinished, LeavesSink, files_of_words, words_of};
 
+use crate::asm::asm;
 use crate::exec::exec;
 use crate::files::{files_of, text_at};
+use crate::list::list;
 use crate::mean::mean;
 use crate::run::run;
 use command_words::{Job, job_of};
@@ -119,6 +121,8 @@ fn do_job<K: Sink>(
                 sink,
             )
         }
+        Job::Asm { .. } => asm(alloc, text_at(texts, 0), sink),
+        Job::List { .. } => list(alloc, text_at(texts, 0), sink),
         Job::Mean { set, steps, .. } => {
             mean(
                 alloc,

@@ -5,5 +5,5 @@ use Rattle.rnm_engine.proofs.exec.run_object.Goals as goal
 
 pub returns-in-Ok : goal.returns-in-Ok
 returns-in-Ok g c =
-    ran g.K.Sink.puts g.K.Sink.state c.args.sink.now c.args.steps [] [] [] (program_of c.args.object.now) c.args.numbers.items c.args.book
+    ran g.K.Sink.puts g.K.Sink.state c.args.sink.now c.args.steps [] [] (program_of c.args.object.now) c.args.numbers.items c.args.book
     c.in-Ok.status c.run.new.sink c.in-Ok.ensures
