@@ -37,7 +37,11 @@ use Rattle.job_endings.specs.declared.ending.Ending.TheVariants.{End, Trap, Dama
 use Rattle.job_endings.specs.EndingLines.{corrected_line, ending_line, ending_status}
 use Rattle.job_endings.specs.Endings.{EndsPut}
 use Rattle.job_endings.proofs.EndingLemmas.{puts_after, fails_before}
-use Rattle.object_runs.specs.RunText.{TellsIntegers, counts_of, run_lines, run_status, told_answer, told_ending, told_of_integers, trace_of}
+use Rattle.fault_book.specs.declared.schedule.Turn.{Turn}
+use Rattle.channel_scheduler.specs.declared.entry.Entry.{Entry}
+use Rattle.channel_scheduler.specs.Counts.{HasPerformed, after_turns}
+use Rattle.channel_scheduler.specs.Moments.{IsFirst, entry_of}
+use Rattle.object_runs.specs.RunText.{AreEntries, PutsRun, TellsIntegers, counts_of, journal_line, run_lines, run_status, told_answer, told_ending, told_of_integers, trace_of}
 
 -- ---- endings
 -- an answer that is told has the ending of the trace
@@ -162,13 +166,14 @@ module _ {R D K : Type 0} (racks : RackGhosts R) (After : R → List LaneState �
   abbrev closing : List (List ℕ)
   closing = ending_line (told_ending (ending_of 0 trace)) ∷ (corrected_line (counts_of set trace) ∷ [])
 
-  -- the lines of a run's trace are put, and then others
-  abbrev Ends : List (List ℕ) → Trace → Status → K → Type 0
-  Ends more t result after = EndsPut puts state before (run_lines set t ++ more) (run_status t) result after
+  abbrev Ends : Trace → Status → K → Type 0
+  Ends t result after = EndsPut puts state before (run_lines set t) (run_status t) result after
 
   -- the lanes are those that the rack was made with
-  pub same_trace : racks.lanes_of rack ≡ lanes_at_start set 0 words → trace ≡ trace_of (racks.book_of rack) set code words steps input
-  same_trace lanes = ap (run_shown (nearest (radius set) None set) (racks.book_of rack) set code steps (control_at_start input)) lanes
+  from_start : racks.lanes_of rack ≡ lanes_at_start set 0 words → (result : Status) (after : K) → Ends trace result after → Ends (trace_of (racks.book_of rack) set code words steps input) result after
+  from_start lanes result after ends =
+      let by : List LaneState → Trace = run_shown (nearest (radius set) None set) (racks.book_of rack) set code steps (control_at_start input) in
+      subst (λ (ls : List LaneState). Ends (by ls) result after) lanes ends
 
   came_of : (answer : MachineEnding) (new : MachineState R D) (after : K) (ending : Ending) → told_answer answer ≡ Some ending
       → RunsOut racks radius None After puts state steps loaded before answer new after → CameOut racks radius None After puts state steps loaded before answer new after
@@ -177,12 +182,6 @@ module _ {R D K : Type 0} (racks : RackGhosts R) (After : R → List LaneState �
   came_of (machine.Damage t column) new after ending told h = h
   came_of machine.Spent new after ending told h = h
   came_of machine.SinkFailed new after ending told h = cc
-
-  -- what the channels have performed, where no put of a print failed
-  pub performed : (answer : MachineEnding) (new : MachineState R D) (after : K) (ending : Ending) → told_answer answer ≡ Some ending
-      → RunsOut racks radius None After puts state steps loaded before answer new after
-      → Performed racks After (operations_of trace) (corrections_of None set trace) loaded.channels new.channels
-  performed answer new after ending told runs = (came_of answer new after ending told runs).run.channels
 
   counts-are : (old new : Bench R D) → old.corrections ≡ replicate (length set.moduli) 0 → Performed racks After (operations_of trace) (corrections_of None set trace) old new → new.corrections ≡ counts_of set trace
   counts-are old new zeros done =
@@ -194,24 +193,29 @@ module _ {R D K : Type 0} (racks : RackGhosts R) (After : R → List LaneState �
       ∙ ap (λ k. k + corrections_of None set trace i) (ap (λ (ks : List ℕ). get_or ks i 0) zeros ∙ get_or-replicate n i 0 0 inside)
       ∙ omega arith)
 
-  -- the run came out, and its ending, its counts and what follows them were put
-  pub ends_put : racks.lanes_of rack ≡ lanes_at_start set 0 words → (answer : MachineEnding) (new : MachineState R D) (mid after : K) (ending : Ending) (more : List (List ℕ)) (result : Status)
-      → told_answer answer ≡ Some ending
+  -- the run came out, and its ending and its counts were put
+  pub ends_put : racks.lanes_of rack ≡ lanes_at_start set 0 words → (answer : MachineEnding) (new : MachineState R D) (mid after : K) (ending : Ending) (result : Status) → told_answer answer ≡ Some ending
       → RunsOut racks radius None After puts state steps loaded before answer new mid
-      → EndsPut puts state mid ((ending_line ending ∷ (corrected_line new.channels.corrections ∷ [])) ++ more) (ending_status ending) result after
-      → Ends more (trace_of (racks.book_of rack) set code words steps input) result after
-  ends_put lanes answer new mid after ending more result told runs ends =
+      → EndsPut puts state mid (ending_line ending ∷ (corrected_line new.channels.corrections ∷ [])) (ending_status ending) result after
+      → Ends (trace_of (racks.book_of rack) set code words steps input) result after
+  ends_put lanes answer new mid after ending result told runs ends =
       let came = came_of answer new mid ending told runs in
       let last : ending ≡ told_ending (ending_of 0 trace) = told-is (ending_of 0 trace) answer ending came.ending told in
       let counts : new.channels.corrections ≡ counts_of set trace = counts-are loaded.channels new.channels refl came.run.channels in
-      let by_counts : EndsPut puts state mid ((ending_line ending ∷ (corrected_line (counts_of set trace) ∷ [])) ++ more) (ending_status ending) result after =
-      subst (λ (ks : List ℕ). EndsPut puts state mid ((ending_line ending ∷ (corrected_line ks ∷ [])) ++ more) (ending_status ending) result after) counts ends in
-      let by_ending : EndsPut puts state mid (closing ++ more) (run_status trace) result after =
-      subst (λ (e : Ending). EndsPut puts state mid ((ending_line e ∷ (corrected_line (counts_of set trace) ∷ [])) ++ more) (ending_status e) result after) last by_counts in
-      let whole : print_lines (prints_of trace) ++ (closing ++ more) ≡ run_lines set trace ++ more = sym (append_assoc (print_lines (prints_of trace)) closing more) in
-      subst (λ (t : Trace). Ends more t result after) (same_trace lanes)
-      (subst (λ (ls : List (List ℕ)). EndsPut puts state before ls (run_status trace) result after) whole
-      (puts_after puts state before mid (print_lines (prints_of trace)) (closing ++ more) (run_status trace) result after came.prints by_ending))
+      let by_counts : EndsPut puts state mid (ending_line ending ∷ (corrected_line (counts_of set trace) ∷ [])) (ending_status ending) result after =
+      subst (λ (ks : List ℕ). EndsPut puts state mid (ending_line ending ∷ (corrected_line ks ∷ [])) (ending_status ending) result after) counts ends in
+      let by_ending : EndsPut puts state mid closing (run_status trace) result after =
+      subst (λ (e : Ending). EndsPut puts state mid (ending_line e ∷ (corrected_line (counts_of set trace) ∷ [])) (ending_status e) result after) last by_counts in
+      from_start lanes result after (puts_after puts state before mid (print_lines (prints_of trace)) closing (run_status trace) result after came.prints by_ending)
+
+  -- the rack has come by the operations of the run, where no put of a print failed
+  pub has_come : racks.lanes_of rack ≡ lanes_at_start set 0 words → racks.IsUnderWay rack (lanes_at_start set 0 words) [] → (answer : MachineEnding) (new : MachineState R D) (mid : K) (ending : Ending)
+      → told_answer answer ≡ Some ending → RunsOut racks radius None After puts state steps loaded before answer new mid
+      → After new.channels.rack (lanes_at_start set 0 words) (operations_of (trace_of (racks.book_of rack) set code words steps input))
+  has_come lanes made answer new mid ending told runs =
+      let come = (came_of answer new mid ending told runs).run.channels.run (lanes_at_start set 0 words) [] made in
+      let by : List LaneState → Trace = run_shown (nearest (radius set) None set) (racks.book_of rack) set code steps (control_at_start input) in
+      subst (λ (ls : List LaneState). After new.channels.rack (lanes_at_start set 0 words) (operations_of (by ls))) lanes come
 
   failed_of : (answer : MachineEnding) (new : MachineState R D) (after : K) → told_answer answer ≡ None
       → RunsOut racks radius None After puts state steps loaded before answer new after → (k : ℕ) × FailedAfter racks radius None After puts state steps k loaded before new after
@@ -222,21 +226,54 @@ module _ {R D K : Type 0} (racks : RackGhosts R) (After : R → List LaneState �
   failed_of machine.SinkFailed new after told h = h
 
   -- the put of a print failed
-  pub breaks_off : racks.lanes_of rack ≡ lanes_at_start set 0 words → (answer : MachineEnding) (new : MachineState R D) (after : K) (more : List (List ℕ)) → told_answer answer ≡ None
+  pub breaks_off : racks.lanes_of rack ≡ lanes_at_start set 0 words → (answer : MachineEnding) (new : MachineState R D) (after : K) → told_answer answer ≡ None
       → RunsOut racks radius None After puts state steps loaded before answer new after
-      → Ends more (trace_of (racks.book_of rack) set code words steps input) Unwritten after
-  breaks_off lanes answer new after more told runs =
+      → Ends (trace_of (racks.book_of rack) set code words steps input) Unwritten after
+  breaks_off lanes answer new after told runs =
       let (k, failed) = failed_of answer new after told runs in
       let part = trace_from racks radius None k loaded in
-      let rest = longer (nearest (radius set) None set) (racks.book_of rack) set code k steps failed.limit (control_at_start input) (racks.lanes_of rack) in
+      let more = longer (nearest (radius set) None set) (racks.book_of rack) set code k steps failed.limit (control_at_start input) (racks.lanes_of rack) in
       let front = print_lines (prints_of part) in
-      let behind = (print_lines rest.0 ++ closing) ++ more in
-      let lines : front ++ (print_lines rest.0 ++ closing) ≡ run_lines set trace =
-      sym (ap (λ (prints : List ℤ). print_lines prints ++ closing) rest.1 ∙ ap (λ (ls : List (List ℕ)). ls ++ closing) (lines-append (prints_of part) rest.0) ∙ append_assoc front (print_lines rest.0) closing) in
-      let whole : front ++ behind ≡ run_lines set trace ++ more =
-      sym (append_assoc front (print_lines rest.0 ++ closing) more) ∙ ap (λ (ls : List (List ℕ)). ls ++ more) lines in
+      let behind = print_lines more.0 ++ closing in
+      let whole : front ++ behind ≡ run_lines set trace =
+      sym (ap (λ (prints : List ℤ). print_lines prints ++ closing) more.1 ∙ ap (λ (ls : List (List ℕ)). ls ++ closing) (lines-append (prints_of part) more.0) ∙ append_assoc front (print_lines more.0) closing) in
       let all : BrokeOff puts state before (take (length front) front) after =
       subst (λ (ls : List (List ℕ)). BrokeOff puts state before ls after) (sym (take_all (length front) front (omega arith))) failed.prints in
-      subst (λ (t : Trace). Ends more t Unwritten after) (same_trace lanes)
+      from_start lanes Unwritten after
       (subst (λ (ls : List (List ℕ)). EndsPut puts state before ls (run_status trace) Unwritten after) whole
       (fails_before puts state before front behind (run_status trace) after (length front, all)))
+
+  -- whatever came of the run, the rack has the plan and the book that it had
+  pub same_rack : (answer : MachineEnding) (new : MachineState R D) (after : K) → RunsOut racks radius None After puts state steps loaded before answer new after
+      → (racks.plan_of new.channels.rack ≡ racks.plan_of rack) × (racks.book_of new.channels.rack ≡ racks.book_of rack)
+  same_rack machine.Halt new after h = (h.run.channels.plan, h.run.channels.book)
+  same_rack (machine.Trap kind at) new after h = (h.run.channels.plan, h.run.channels.book)
+  same_rack (machine.Damage t column) new after h = (h.run.channels.plan, h.run.channels.book)
+  same_rack machine.Spent new after h = (h.run.channels.plan, h.run.channels.book)
+  same_rack machine.SinkFailed new after (k, h) = (h.run.channels.plan, h.run.channels.book)
+
+-- ---- the journal
+module _ {K : Type 0} (puts : K → List ℕ → K → Type 0) (state : K → SinkState) (plan : List Turn × ℕ) (book : Book) (set : ModuliSet) (words : List ℤ) (trace : Trace) (old : K) where
+  abbrev start : List LaneState
+  start = lanes_at_start set 0 words
+
+  -- a put of the run failed before its journal
+  pub cut : (n : ℕ) × IsFirst (HasPerformed (operations_of trace)) plan.0 (length start) (operations_of trace) n → (new : K)
+      → EndsPut puts state old (run_lines set trace) (run_status trace) Unwritten new → PutsRun puts state plan book set words trace old Unwritten new
+  cut (n, first) new ends =
+      let entries = take plan.1 (map (entry_of book start (operations_of trace)) (after_turns (operations_of trace) plan.0 (length start) n).journal) in
+      record {
+        entries = entries;
+        are = (n, first, refl);
+        put = fails_first puts state old (run_lines set trace) (map journal_line entries) (told_ending (ending_of 0 trace)) new ends;
+      }
+
+  -- the journal of the rack is put after the run
+  pub whole : (entries : List Entry) → AreEntries plan book set words trace entries → (mid : K) (status result : Status) (new : K) → (status ≡ Unwritten → ⊥)
+      → EndsPut puts state old (run_lines set trace) (run_status trace) status mid → EndsPut puts state mid (map journal_line entries) status result new
+      → PutsRun puts state plan book set words trace old result new
+  whole entries are mid status result new written ends next = record {
+    entries = entries;
+    are = are;
+    put = follows puts state old (run_lines set trace) (map journal_line entries) (told_ending (ending_of 0 trace)) mid status result new written ends next;
+  }

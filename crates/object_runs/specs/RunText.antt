@@ -66,10 +66,11 @@ AreEntries plan book set words trace entries =
     JournalIs (HasPerformed (operations_of trace)) plan book (lanes_at_start set 0 words) (operations_of trace) entries
 
 -- the lines of a run and of its journal are put, up to a put that failed
-abbrev pub PutsRun : {K : Type 0} → (K → List ℕ → K → Type 0) → (K → SinkState) → List Turn × ℕ → Book → ModuliSet → List ℤ → Trace → K → Status → K → Type 0
-PutsRun puts state plan book set words trace old result new =
-    (entries : List Entry) × AreEntries plan book set words trace entries
-    × EndsPut puts state old (run_lines set trace ++ map journal_line entries) (run_status trace) result new
+pub record PutsRun {K : Type 0} (puts : K → List ℕ → K → Type 0) (state : K → SinkState) (plan : List Turn × ℕ) (book : Book) (set : ModuliSet)
+    (words : List ℤ) (trace : Trace) (old : K) (result : Status) (new : K) : Type 0 where
+  pub entries : List Entry
+  pub are : AreEntries plan book set words trace entries
+  pub put : EndsPut puts state old (run_lines set trace ++ map journal_line entries) (run_status trace) result new
 
 -- how a machine's run came out, as it is told; none where the put of a print failed
 abbrev pub told_answer : MachineEnding → Option Ending

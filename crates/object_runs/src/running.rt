@@ -1,12 +1,14 @@
-ghost use Rattle.std.specs.Prelude.{◌≡◌, ◌≤◌, ◌^◌, [], All, MatchResult, length};
+ghost use Rattle.std.specs.Prelude.{◌≡◌, ◌≢◌, ◌≤◌, ◌^◌, [], All, MatchResult, length};
 ghost use Rattle.moduli_sets.specs.Name.{set_of_name};
 ghost use Rattle.fault_book.specs.Turns.{IsTurnOf};
 ghost use Rattle.lane_bank.specs.Bank.{lanes_at_start};
 ghost use Rattle.machine_table.specs.Objects.{code_of, set_of_object, words_of};
-ghost use Rattle.object_runs.specs.RunText.{PutsRun, entries_kept, told_answer, trace_of};
+ghost use Rattle.shown_run.specs.Trace.{operations_of};
+ghost use Rattle.job_endings.specs.Endings.{EndsPut};
+ghost use Rattle.object_runs.specs.RunText.{PutsRun, entries_kept, run_lines, run_status, told_answer, trace_of};
 
 use crate::journal::put_journal;
-use channel_scheduler::{Rack, Scheduled};
+use channel_scheduler::{Rack, Scheduled, turns_end};
 use fault_book::{Faults, Schedule};
 use job_endings::{Ending, Status, corrected_line, put_lines};
 use lane_bank::{AnyBank, Bank};
@@ -74,15 +76,44 @@ fn run_on<B: Bank, D: Decoder, K: Sink>(
         (trace_of (racks.book_of rack) (set_of_name (set_of_object object.now)) (code_of object.now) (words_of object.now) steps input.items)
         sink.old result sink.new }
 {
-    let mut machine = Machine::load(object, rack, decoder, input);
-    let Some(ending) = told(machine.run(steps, sink)) else {
-        return Status::Unwritten;
-    };
-    let corrected = corrected_line(&machine.corrections());
-    match put_lines(sink, &[ending.line(), corrected], ending.status()) {
+    turns_end();
+    let (status, machine) = put_run(object, rack, decoder, input, steps, sink);
+    match status {
         Status::Unwritten => Status::Unwritten,
         status => put_journal(machine.rack().journal(), status, sink),
     }
+}
+
+/// The run on a rack that was just made from the data words of the object, up to its journal; and the machine after it.
+fn put_run<'o, R: Rack, D: Decoder, K: Sink>(
+    object: &'o Object,
+    rack: R,
+    decoder: D,
+    input: Vec<i128>,
+    steps: u64,
+    sink: &mut K,
+) -> (Status, Machine<'o, R, D>)
+    requires few { steps ≤ 10 ^ 12 }
+    requires decoder { D.set decoder ≡ set_of_name (set_of_object object.now) }
+    requires settled { R.IsSettled rack }
+    requires made { R.IsUnderWay rack (lanes_at_start (set_of_name (set_of_object object.now)) 0 (words_of object.now)) [] }
+    ensures puts { EndsPut K.puts K.state sink.old
+        (run_lines (set_of_name (set_of_object object.now)) (trace_of (R.book_of rack) (set_of_name (set_of_object object.now)) (code_of object.now) (words_of object.now) steps input.items))
+        (run_status (trace_of (R.book_of rack) (set_of_name (set_of_object object.now)) (code_of object.now) (words_of object.now) steps input.items))
+        result.0 sink.new }
+    ensures ended { result.0 ≢ Status.Unwritten
+        → R.HasEnded result.1.channels.rack (lanes_at_start (set_of_name (set_of_object object.now)) 0 (words_of object.now))
+        (operations_of (trace_of (R.book_of rack) (set_of_name (set_of_object object.now)) (code_of object.now) (words_of object.now) steps input.items)) }
+    ensures plan { R.plan_of result.1.channels.rack ≡ R.plan_of rack }
+    ensures book { R.book_of result.1.channels.rack ≡ R.book_of rack }
+{
+    let mut machine = Machine::load(object, rack, decoder, input);
+    let Some(ending) = told(machine.run(steps, sink)) else {
+        return (Status::Unwritten, machine);
+    };
+    let corrected = corrected_line(&machine.corrections());
+    let status = put_lines(sink, &[ending.line(), corrected], ending.status());
+    (status, machine)
 }
 
 /// How a run came out, as it is told. None where the put of a print failed.

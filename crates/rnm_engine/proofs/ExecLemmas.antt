@@ -67,8 +67,8 @@ module _ {K : Type 0} (puts : K → List ℕ → K → Type 0) (state : K → Si
       → PutsRun puts state (turns, entries_kept journal) b (set_of_name program.set) program.words
       (trace_of b (set_of_name program.set) program.code program.words steps numbers) old result new
       → Does puts state old (IsOwn (IsRunOf steps journal program numbers b turns)) (Ok result) new
-  ran steps journal program numbers b turns result new (entries, are, ends) =
+  ran steps journal program numbers b turns result new h =
       let set = set_of_name program.set in
       let trace = trace_of b set program.code program.words steps numbers in
-      let pieces = run_lines set trace ++ map journal_line entries in
-      (pieces, run_status trace, ((entries, are, refl), own_run pieces (ending_of 0 trace)), ends)
+      let pieces = run_lines set trace ++ map journal_line h.entries in
+      (pieces, run_status trace, ((h.entries, h.are, refl), own_run pieces (ending_of 0 trace)), h.put)

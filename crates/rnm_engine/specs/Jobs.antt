@@ -228,6 +228,17 @@ abbrev pub IsExecAnswer : ℕ → Bool → List ℕ → List ℕ → List ℕ �
 IsExecAnswer steps journal object input faults schedule answer =
     IsObjectAnswer object (λ program. IsInputAnswer input (IsProgramAnswer steps journal program faults schedule)) answer
 
+-- lines, and then those of a journal
+abbrev pub IsBeforeJournal : List (List ℕ) → List (List ℕ) → Type 0
+IsBeforeJournal front pieces = (entries : List Entry) × (pieces ≡ front ++ map journal_line entries)
+
+-- two runs print the same but for their journals
+pub record AreAlike (pieces others : List (List ℕ)) (status other_status : Status) : Type 0 where
+  pub front : List (List ℕ)
+  pub one : IsBeforeJournal front pieces
+  pub other : IsBeforeJournal front others
+  pub same : status ≡ other_status
+
 -- the listing of a program
 abbrev pub listing_of : ObjectProgram → List ℕ
 listing_of program = listing program.set program.code program.words

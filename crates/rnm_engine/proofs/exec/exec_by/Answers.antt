@@ -18,7 +18,7 @@ requires-run_object-turns g c =
 pub returns-in-Ok : goal.returns-in-Ok
 returns-in-Ok g c =
     let channels = length (set_of_name (set_of_object c.args.object.now)).moduli in
-    let are = subst (λ (set : ModuliSet). AreTurns (length set.moduli) c.args.schedule.now c.in-Ok.turns) (c.of.ensures ∙ ap set_of_name c.set.ensures) c.in-Ok.ensures.value in
+    let are = subst (λ (set : ModuliSet). AreTurns (length set.moduli) c.args.schedule.now c.in-Ok.turns) (c.of.ensures ∙ ap set_of_name c.set.ensures) c.in-Ok.ensures.text in
     turned g.K.Sink.puts g.K.Sink.state c.args.sink.now channels c.args.schedule.now
     (IsRunOf c.args.options.steps c.args.options.journal (program_of c.args.object.now) c.args.numbers.items c.args.book)
     c.in-Ok.turns are c.run_object.result c.run_object.new.sink c.run_object.ensures
@@ -29,6 +29,6 @@ returns-in-Err g c =
     let channels = length (set_of_name (set_of_object c.args.object.now)).moduli in
     let Is : List Turn → Answer → Type 0 =
     IsRunOf c.args.options.steps c.args.options.journal (program_of c.args.object.now) c.args.numbers.items c.args.book in
-    let first = subst (λ (set : ModuliSet). IsScheduleFault (length set.moduli) c.args.schedule.now c.in-Err.fault) (c.of.ensures ∙ ap set_of_name c.set.ensures) c.in-Err.ensures.value in
+    let first = subst (λ (set : ModuliSet). IsScheduleFault (length set.moduli) c.args.schedule.now c.in-Err.fault) (c.of.ensures ∙ ap set_of_name c.set.ensures) c.in-Err.ensures in
     subst (λ (stop : Stop). Does g.K.Sink.puts g.K.Sink.state old (IsOwn (IsScheduleAnswer channels c.args.schedule.now Is)) (Err stop) old) (sym c.stop_of_schedule.ensures)
     (refuses_turns g.K.Sink.puts g.K.Sink.state old channels c.args.schedule.now Is c.in-Err.fault first)
