@@ -1,0 +1,1 @@
+use Rattle.object_runs.proofs.running.run_on.Goals as goal
