@@ -210,7 +210,7 @@ kept-without-first old new backlog e h =
     let place : 1 + (length (drop 1 old) - backlog) ≡ length old - backlog = omega arith in (
       omega (arith, ap length new_is),
       ap (λ xs. drop (length xs - backlog) xs) new_is
-      ∙ (drop-drop (length (drop 1 old) - backlog) 1 old ∙ ap (λ n. drop n old) place),
+          ∙ (drop-drop (length (drop 1 old) - backlog) 1 old ∙ ap (λ n. drop n old) place),
     )
 
 -- one backlog more is counted

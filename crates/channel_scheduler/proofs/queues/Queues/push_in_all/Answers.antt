@@ -25,7 +25,7 @@ invariant_of-self c =
     let each = kept_each inside.recent.items new inside.backlogs.items inside.waiting inside.full c.args.self.now c.self.view_is counts c.requires c.make_room.ensures.kept in
     let pushed = counts-pushed inside.recent.items new c.args.op inside.backlogs.items after inside.waiting inside.full c.one_more_in_all-self-inside.result counts c.make_room.ensures.room each c.one_more_in_all-self-inside.ensures.items c.one_more_in_all-self-inside.ensures.full in (
       subst (λ recent. AreCounts recent after (inside.waiting + c.len.result) c.one_more_in_all-self-inside.result) (sym c.push_last.ensures.items)
-      (subst (λ n. AreCounts (new ++ c.args.op ∷ []) after (inside.waiting + n) c.one_more_in_all-self-inside.result) (sym c.len.ensures.value) pushed),
+          (subst (λ n. AreCounts (new ++ c.args.op ∷ []) after (inside.waiting + n) c.one_more_in_all-self-inside.result) (sym c.len.ensures.value) pushed),
       omega (arith, c.self.invariant.1, c.make_room.ensures.capacity, c.push_last.ensures.capacity),
     )
 
