@@ -9,4 +9,5 @@ pub mod TurnLemmas
 pub mod RunLemmas
 pub mod LoopLemmas
 pub mod MomentLemmas
+pub mod TurnsEnd
 mod JournalRows

@@ -25,6 +25,12 @@ pub fn moments_of_runs()
         → IsFirst (HasPerformed (ops ++ op ∷ [])) schedule channels (ops ++ op ∷ []) n }
 {}
 
+/// For every list of operations and every schedule there is a first moment at which every operation is issued and performed.
+pub fn turns_end()
+    ensures { (ops : List MicroOp) (schedule : List Turn) (channels : ℕ)
+        → (n : ℕ) × IsFirst (HasPerformed ops) schedule channels ops n }
+{}
+
 /// A run has one journal: its moment is the first of its kind, and so there is one, and with it one list of entries.
 pub fn law_of_journals()
     ensures under_way { (plan : List Turn × ℕ) (book : Book) (start : List LaneState) (ops : List MicroOp) (one other : List Entry)

@@ -19,7 +19,7 @@ mod rack;
 mod scheduled;
 
 pub use entry::Entry;
-pub use laws::{law_of_journals, moments_of_runs};
+pub use laws::{law_of_journals, moments_of_runs, turns_end};
 pub use lockstep::Lockstep;
 pub use rack::Rack;
 pub use scheduled::Scheduled;

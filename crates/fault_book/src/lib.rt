@@ -14,6 +14,6 @@ mod reading;
 mod schedule;
 
 pub use faults::Faults;
-pub use laws::laws_of_faults;
+pub use laws::{laws_of_faults, schedules_have_one_reading};
 pub use reading::BookFault;
 pub use schedule::{Schedule, ScheduleFault, Turn};

@@ -1,6 +1,7 @@
-ghost use Rattle.std.specs.Prelude.{◌≡◌, ◌≤◌, [], MatchOption, MatchResult, None, length};
+ghost use Rattle.std.specs.Prelude.{◌≡◌, ◌<◌, ◌≤◌, [], All, IfOk, MatchResult, length};
 ghost use Rattle.moduli_sets.specs.Moduli.{set_of};
 ghost use Rattle.fault_book.specs.ScheduleText.{AreTurns, IsScheduleFault, turn_of};
+ghost use Rattle.fault_book.specs.Turns.{IsTurnOf};
 ghost use Rattle.fault_book.specs.declared.schedule.ScheduleFault.TheVariants.{NoMemory};
 
 use moduli_sets::Moduli;
@@ -64,9 +65,10 @@ impl Schedule {
     /// out.
     pub fn read(alloc: Global, set: &Moduli, text: &[u8]) -> Result<Schedule, ScheduleFault>
         requires { length text.now ≤ 4294967294 }
-        ensures { MatchResult result
+        ensures text { MatchResult result
             (AreTurns (length (set_of set.now).moduli) text.now)
             (IsScheduleFault (length (set_of set.now).moduli) text.now) }
+        ensures turns { IfOk result (All (IsTurnOf (length (set_of set.now).moduli))) }
     {
         set.rules();
         let mut turns = Vec::new(alloc);
