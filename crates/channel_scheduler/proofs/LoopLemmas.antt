@@ -1,8 +1,8 @@
 -- Loops of turns.
-use Rattle.std.proofs.Common.{◌≡◌, ℕ, zero, suc, ◌+◌, ◌<◌, ◌^◌, Bool, true, false, not, ◌||◌, eqb, All, List, [], ◌∷◌, map, length, refl, sym, ap, ◌∙◌, subst, inl, inr, arith}
+use Rattle.std.proofs.Common.{◌≡◌, ℕ, zero, suc, ◌+◌, ◌-◌, ◌<◌, ◌≤◌, ◌^◌, Bool, true, false, not, ◌||◌, cond, eqb, ltb, All, List, [], ◌∷◌, ◌++◌, map, length, get_or, refl, sym, ap, ◌∙◌, subst, inl, inr, arith}
 use Rattle.std.specs.List.{list_any}
 use Rattle.std.proofs.Math.ListN.{set}
-use Rattle.std.proofs.lemmas.Bool.{or_cases, or_parts, or_left, or_right, eqb-true, ne_eqb, cases_lt, not_from_false}
+use Rattle.std.proofs.lemmas.Bool.{or_cases, or_parts, or_left, or_right, eqb-true, ne_eqb, le-ltb, cases_lt, cond-false, not_from_false}
 use Rattle.std.proofs.lemmas.List.{set-get_or}
 use Rattle.channel_alu.specs.declared.operation.MicroOp.{MicroOp}
 use Rattle.fault_book.specs.Book.{Book}
@@ -10,10 +10,11 @@ use Rattle.channel_lane.specs.Lane.{LaneState, answer_of, lane_after, lane_after
 use Rattle.channel_lane.proofs.LaneLemmas.{set-after_all, words-after_all, answers-after_all}
 use Rattle.channel_lane.specs.Meaning.{CanPerform}
 use Rattle.lane_bank.specs.Bank.{no_lane, lane_at}
-use Rattle.fault_book.specs.declared.schedule.Turn.TheVariants.{Control}
+use Rattle.fault_book.specs.declared.schedule.Turn.TheVariants.{Control, Lane}
+use Rattle.channel_scheduler.specs.declared.entry.Entry.{Entry}
 use Rattle.channel_scheduler.specs.Kept.{KeptJournal, noted}
-use Rattle.channel_scheduler.specs.Channels.{ChannelState, channel_state, IsAble, IsKept, no_operations, queue_at, is_behind, is_blocked, is_control, must_wait, next_turn, performed, performed_from, passed, passes, issued, RunsWhile, caught_up, last_answers}
-use Rattle.channel_scheduler.proofs.CatchingLemmas.{Keeps-passes, length-caught_up, caught_up-at, caught_up-issued, last_answers-issued, last_answers-settled}
+use Rattle.channel_scheduler.specs.Channels.{ChannelState, channel_state, IsAble, IsKept, no_operations, queue_at, is_behind, is_blocked, is_control, must_wait, next_turn, by_turn, advanced, performed, performed_from, passed, passes, issued, RunsWhile, caught_up, last_answers}
+use Rattle.channel_scheduler.proofs.CatchingLemmas.{Place-performed, Keeps-passes, length-caught_up, caught_up-at, caught_up-issued, last_answers-issued, last_answers-settled}
 
 pub RunsWhile-none : (test : ChannelState → Bool) (book : Book) (s : ChannelState) → RunsWhile test book s s
 RunsWhile-none test book s = (zero, refl, λ j h. absurd (omega arith))
@@ -30,6 +31,53 @@ RunsWhile-more test book s mid after run here step =
             ap (λ n. test (passes book n s)) same ∙ (ap test (sym run.1) ∙ here)
       ],
     )
+
+-- further turns
+passes-more : (test : ChannelState → Bool) (book : Book) (s mid : ChannelState) (k : ℕ) → RunsWhile test book s mid → ((j : ℕ) → j < k → test (passes book j mid) ≡ true) → RunsWhile test book s (passes book k mid)
+passes-more test book s mid zero run tests = run
+passes-more test book s mid (suc k) run tests =
+    RunsWhile-more test book s (passes book k mid) (passes book (suc k) mid) (passes-more test book s mid k run (λ j h. tests j (omega arith))) (tests k (omega arith)) refl
+
+pub RunsWhile-then : (test : ChannelState → Bool) (book : Book) (s mid after : ChannelState) → RunsWhile test book s mid → RunsWhile test book mid after → RunsWhile test book s after
+RunsWhile-then test book s mid after run more =
+    subst (RunsWhile test book s) (sym more.1) (passes-more test book s mid more.0 run more.2)
+
+-- a channel's turn in a round
+pub turn_in_round : (s : ChannelState) → length s.schedule ≤ s.used → 0 < s.round → next_turn s ≡ Lane (s.round - 1)
+turn_in_round s used place =
+    cond-false (ltb s.used (length s.schedule)) (get_or s.schedule s.used Control) (cond (eqb s.round 0) Control (Lane (s.round - 1))) (le-ltb s.used (length s.schedule) used)
+    ∙ cond-false (eqb s.round 0) Control (Lane (s.round - 1)) (ne_eqb s.round 0 (omega arith))
+
+pub must_wait_in_round : (s : ChannelState) → length s.schedule ≤ s.used → 0 < s.round → must_wait s ≡ true
+must_wait_in_round s used place = ap (λ turn. not (is_control turn) || is_blocked s) (turn_in_round s used place)
+
+pub passed_in_round : (book : Book) (s : ChannelState) → length s.schedule ≤ s.used → 0 < s.round → advanced (performed book s (s.round - 1)) ≡ passed book s
+passed_in_round book s used place = ap (λ turn. advanced (by_turn book s turn)) (sym (turn_in_round s used place))
+
+-- the schedule stays used up
+pub used_after : (book : Book) (s : ChannelState) (i : ℕ) → length s.schedule ≤ s.used → length (performed book s i).schedule ≤ (performed book s i).used
+used_after book s i used =
+    let place = Place-performed book s i in
+    omega (arith, ap length place.0, place.1)
+
+pub used_passed : (book : Book) (s : ChannelState) → length s.schedule ≤ s.used → 0 < s.round → length (passed book s).schedule ≤ (passed book s).used
+used_passed book s used at =
+    let after = performed book s (s.round - 1) in
+    let used_now = used_after book s (s.round - 1) used in
+    let used_is : (advanced after).used ≡ after.used = cond-false (ltb after.used (length after.schedule)) (after.used + 1) after.used (le-ltb after.used (length after.schedule) used_now) in
+    subst (λ x. length x.schedule ≤ x.used) (passed_in_round book s used at) (subst (λ n. length after.schedule ≤ n) (sym used_is) used_now)
+
+-- in a round of which a channel's turn is next, control's is not
+pub not_control : (s : ChannelState) → length s.schedule ≤ s.used → 0 < s.round → next_turn s ≡ Control → is_behind s ≡ true
+not_control s used place e = absurd (lane_not_control (s.round - 1) (sym (turn_in_round s used place) ∙ e))
+  where
+    lane_not_control : (i : ℕ) → Lane i ≡ Control → ⊥
+    lane_not_control i h = cc
+
+-- where there is no room nothing is noted
+pub not_noted : (journal : KeptJournal) (entry : Entry) → ltb (length journal.entries) journal.room ≡ false → journal ≡ noted journal entry
+not_noted journal entry h =
+    sym (ap (λ entries. record journal { entries = entries }) (cond-false (ltb (length journal.entries) journal.room) (journal.entries ++ entry ∷ []) journal.entries h))
 
 -- a full queue is not empty
 blocked_behind : (queues : List (List MicroOp)) → list_any (λ queue. eqb (length queue) 8) queues ≡ true → list_any (λ queue. not (eqb (length queue) 0)) queues ≡ true

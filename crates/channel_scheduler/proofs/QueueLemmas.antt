@@ -234,6 +234,13 @@ kept_each old new backlogs waiting full queues view counts free kept =
     (All-get_or (λ b. b < 8) backlogs i 0 h short)
     (λ none. All-get_or (λ b. b ≡ 0) backlogs i 0 h (zero_each backlogs (sym counts.waiting_is ∙ none))))
 
+pub backlogs-pushed : (old new : List MicroOp) (op : MicroOp) (backlogs after : List ℕ) → All (KeepsEnd old new) backlogs → after ≡ map (λ b. b + 1) backlogs → All (λ b. b ≤ length (new ++ op ∷ [])) after
+backlogs-pushed old new op backlogs after each after_is =
+    let longer = length-append new (op ∷ []) in
+    subst (All (λ b. b ≤ length (new ++ op ∷ []))) (sym after_is)
+    (All-map (λ b. b ≤ length (new ++ op ∷ [])) (λ b. b + 1) backlogs
+    (All-weaker (KeepsEnd old new) (λ b. b + 1 ≤ length (new ++ op ∷ [])) (λ b k. let within = k.0 in omega arith) backlogs each))
+
 pub counts-pushed : (old new : List MicroOp) (op : MicroOp) (backlogs after : List ℕ) (waiting full full_now : ℕ) → AreCounts old backlogs waiting full → length new < 8 → All (KeepsEnd old new) backlogs → after ≡ map (λ b. b + 1) backlogs → full_now ≡ count_by is_eight after
     → AreCounts (new ++ op ∷ []) after (waiting + length after) full_now
 counts-pushed old new op backlogs after waiting full full_now counts room each after_is full_is =
@@ -244,12 +251,23 @@ counts-pushed old new op backlogs after waiting full full_now counts room each a
     record {
       recent_in = omega arith;
       channels_in = omega arith;
-      backlogs_in = subst (All (λ b. b ≤ length (new ++ op ∷ []))) (sym after_is)
-          (All-map (λ b. b ≤ length (new ++ op ∷ [])) (λ b. b + 1) backlogs
-          (All-weaker (KeepsEnd old new) (λ b. b + 1 ≤ length (new ++ op ∷ [])) (λ b k. let within = k.0 in omega arith) backlogs each));
+      backlogs_in = backlogs-pushed old new op backlogs after each after_is;
       waiting_is = omega (arith, sum-more backlogs, ap sum after_is);
       full_is = full_is;
     }
+
+-- ---- how many backlogs are 8
+pub one_at_most : (b : Bool) → from_bool b ≤ 1
+one_at_most true = omega arith
+one_at_most false = omega arith
+
+pub no_eights : (backlogs : List ℕ) → All (λ b. b < 8) backlogs → count_by is_eight backlogs ≡ 0
+no_eights [] short = refl
+no_eights (b ∷ backlogs) short =
+    let first = All-head (λ x. x < 8) b backlogs short in
+    let miss : cond {A = ℕ} (eqb b 8) 1 0 ≡ 0 = cond-false (eqb b 8) 1 0 (ne_eqb b 8 (omega arith)) in
+    let count : count_by is_eight (b ∷ backlogs) ≡ cond (eqb b 8) 1 0 + count_by is_eight backlogs = sum_by-cons (λ x. cond (eqb x 8) 1 0) b backlogs in
+    omega (arith, no_eights backlogs (All-tail (λ x. x < 8) b backlogs short))
 
 -- at most 8 operations wait for each of 12 channels
 sum_most : (most : ℕ) (backlogs : List ℕ) → All (λ b. b ≤ most) backlogs → sum backlogs ≤ length backlogs * most

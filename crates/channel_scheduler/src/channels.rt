@@ -1,4 +1,4 @@
-ghost use Rattle.std.specs.Prelude.{◌≡◌, ℕ, ◌+◌, ◌<◌, ◌^◌, All, length, false, IfOk};
+ghost use Rattle.std.specs.Prelude.{◌≡◌, ℕ, ◌+◌, ◌<◌, ◌≤◌, ◌^◌, All, length, false, IfOk, nat_le};
 ghost use Rattle.fault_book.specs.Turns.{IsTurnOf};
 ghost use Rattle.lane_bank.specs.Bank.{lane_at};
 ghost use Rattle.channel_scheduler.specs.Channels.{IsAble, IsKept, RunsWhile, advanced, is_behind, is_blocked, issued, must_wait, new_channels, next_turn, passed, performed, queue_at};
@@ -139,12 +139,16 @@ impl<B: Bank> Channels<B> {
         }
     }
 
-    /// A channel performs the first operation of its queue, where there is one.
+    /// A channel performs the first operation of its queue, where there is one. What number it has is asked only where the
+    /// journal keeps it.
     fn perform_next(&mut self, i: usize, faults: &Faults)
         requires { i < length self.old.lanes }
         ensures { self.new ≡ performed faults.now self.old i }
     {
-        if self.queues.backlog(i) != 0 {
+        if self.queues.backlog(i) == 0 {
+            return;
+        }
+        if self.journal.has_room() {
             let number = self.bank.answered(i);
             let answer = self.bank.perform(i, self.queues.first(i), faults);
             self.queues.drop_first(i);
@@ -154,6 +158,10 @@ impl<B: Bank> Channels<B> {
                 number,
                 answer,
             });
+        } else {
+            let answer = self.bank.perform(i, self.queues.first(i), faults);
+            self.queues.drop_first(i);
+            self.column.replace(i, answer);
         }
     }
 
@@ -168,11 +176,61 @@ impl<B: Bank> Channels<B> {
         self.advance();
     }
 
+    /// The place in the round.
+    fn round(&self) -> usize
+        ensures round { result ≡ self.now.round }
+        ensures kept { IsKept self.now }
+    {
+        self.round
+    }
+
+    /// Whether the schedule is used up.
+    fn is_in_rounds(&self) -> bool
+        ensures { result ≡ nat_le (length self.now.schedule) self.now.used }
+    {
+        self.schedule.turns().len() <= self.used
+    }
+
+    /// The turn of a channel in a round, after the schedule.
+    fn pass_in_round(&mut self, faults: &Faults)
+        requires rounds { length self.old.schedule ≤ self.old.used }
+        requires channel { 0 < self.old.round }
+        ensures { self.new ≡ passed faults.now self.old }
+    {
+        self.perform_next(self.round - 1, faults);
+        self.advance_in_round();
+    }
+
+    /// A turn more of a round is used.
+    fn advance_in_round(&mut self)
+        requires { length self.old.schedule ≤ self.old.used }
+        ensures { self.new ≡ advanced self.old }
+    {
+        if self.round < self.queues.channels() {
+            self.round += 1;
+        } else {
+            self.round = 0;
+        }
+    }
+
+    /// Turns up to the end of the round, after the schedule.
+    fn end_round(&mut self, faults: &Faults)
+        requires { length self.old.schedule ≤ self.old.used }
+        ensures { RunsWhile must_wait faults.now self.old self.new }
+    {
+        while self.round() != 0 {
+            self.pass_in_round(faults);
+        }
+    }
+
     /// Turns up to that which can issue.
     pub(crate) fn wait(&mut self, faults: &Faults)
         ensures run { RunsWhile must_wait faults.now self.old self.new }
         ensures ends { must_wait self.new ≡ false }
     {
+        if self.is_in_rounds() {
+            self.end_round(faults);
+        }
         while self.must_wait() {
             self.pass(faults);
         }

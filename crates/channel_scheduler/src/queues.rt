@@ -101,7 +101,9 @@ impl Queues {
         let backlog = self.backlogs[i];
         put(&mut self.backlogs, i, backlog - 1);
         self.waiting -= 1;
-        self.full -= usize::from(backlog == MOST);
+        if backlog == MOST {
+            self.full -= 1;
+        }
     }
 
     /// An operation is put at the end of each queue.
@@ -111,7 +113,8 @@ impl Queues {
     {
         make_room(&mut self.recent, self.waiting);
         push_last(&mut self.recent, op);
-        self.full = one_more_in_all(&mut self.backlogs);
+        one_more_in_all(&mut self.backlogs);
+        self.full = eights(&self.backlogs, self.recent.len());
         self.waiting += self.backlogs.len();
     }
 }
@@ -145,17 +148,28 @@ fn push_last(recent: &mut Vec<MicroOp>, op: MicroOp)
     let _ = recent.push(op);
 }
 
-/// One operation more waits for each channel. The answer is how many backlogs are 8 then.
-fn one_more_in_all(backlogs: &mut ArrayVec<usize, 12>) -> usize
+/// One operation more waits for each channel.
+fn one_more_in_all(backlogs: &mut ArrayVec<usize, 12>)
     requires { All (λ backlog. backlog < 8) backlogs.old.items }
-    ensures items { backlogs.new.items ≡ map (λ backlog. backlog + 1) backlogs.old.items }
-    ensures full { result ≡ count_by (λ backlog. backlog == 8) backlogs.new.items }
+    ensures { backlogs.new.items ≡ map (λ backlog. backlog + 1) backlogs.old.items }
 {
-    let mut full = 0;
     for i in 0..backlogs.len() {
         let backlog = backlogs[i] + 1;
         put(backlogs, i, backlog);
-        full += usize::from(backlog == MOST);
+    }
+}
+
+/// How many backlogs are 8, where no backlog is more than so many.
+fn eights(backlogs: &ArrayVec<usize, 12>, most: usize) -> usize
+    requires { All (λ backlog. backlog ≤ most) backlogs.now.items }
+    ensures { result ≡ count_by (λ backlog. backlog == 8) backlogs.now.items }
+{
+    if most < MOST {
+        return 0;
+    }
+    let mut full = 0;
+    for i in 0..backlogs.len() {
+        full += usize::from(backlogs[i] == MOST);
     }
     full
 }
