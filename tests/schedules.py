@@ -35,9 +35,8 @@ SHOWN = "--shown"
 # The operations of a run, S for a Show; a schedule; and the channel and the operation of each entry, of five channels.
 IN_ROUNDS = [(channel, number) for number in range(2) for channel in range(5)]
 OF_TEN = [
-    *((0, number) for number in range(8)), *((channel, 0) for channel in (1, 2, 3, 4)),
-    *((channel, 8 if channel == 0 else 1) for channel in range(5)), *((channel, 9 if channel == 0 else 2) for channel in range(5)),
-    *((channel, number) for number in range(3, 10) for channel in (1, 2, 3, 4)),
+    *((0, number) for number in range(8)), (1, 0), (2, 0), (3, 0), (4, 0), (0, 8), (1, 1), (2, 1), (3, 1), (4, 1),
+    (0, 9), (1, 2), (2, 2), (3, 2), (4, 2), *((channel, number) for number in range(3, 10) for channel in (1, 2, 3, 4)),
 ]
 WORKED_OUT = [
     ("", b"", []),
@@ -53,8 +52,15 @@ WORKED_OUT = [
 
 
 def operations_of(chance, kinds, channels):
+    """Operations with any answers; S is a Show."""
     return [
         Operation(number, kind == "S", [chance.randrange(9) for _ in range(channels)]) for number, kind in enumerate(kinds)]
+
+
+def runs_of(chance, channels):
+    """A few turns, each again and again."""
+    times = [chance.choice([1, 2, 9]) for _ in range(chance.randrange(40))]
+    return [turn for count in times for turn in [chance.choice([CONTROL, *range(channels)])] * count]
 
 
 def wrong_worked_out():
@@ -77,8 +83,7 @@ def wrong_by_counts(seed):
         channels = chance.choice(sorted(set(CHANNELS.values())))
         kinds = chance.choices("PS", [chance.choice([1, 5, 30]), 1], k=chance.choice([1, 8, 9, 30, 100]))
         operations = operations_of(chance, kinds, channels)
-        schedule = [
-            turn for _ in range(chance.randrange(40)) for turn in [chance.choice([CONTROL, *range(channels)])] * chance.choice([1, 2, 9])]
+        schedule = runs_of(chance, channels)
         if journal(operations, schedule, channels) != journal_by_counts(operations, schedule, channels):
             wrong.append(f"journal {number} of {''.join(kinds)} by {schedule}")
     return wrong

@@ -2,7 +2,8 @@
 from second.schedules import CONTROL
 
 SEPARATORS = [" "] * 6 + ["\n", "\t", "\r\n", "\r", "  \n\t"]
-BAD_WORDS = ["c", "CC", "C1", "1C", "-1", "+1", "1x", "x", "C\x00", "0\x0b", "\x0c", "256", "4294967296", str(2**64), "1" + "0" * 39]
+BAD_WORDS = [
+    "c", "CC", "C1", "1C", "-1", "+1", "1x", "x", "C\x00", "0\x0b", "\x0c", "256", str(2**32), str(2**64), "1" + "0" * 39]
 LONG = [1, 2, 7, 8, 9, 10, 30, 300]
 MOST_TURNS = 5_000
 
@@ -23,7 +24,8 @@ def in_runs(chance, channels, length):
 
 def control_first(chance, channels, length):
     """Control alone, and then one channel alone."""
-    return [CONTROL] * chance.choice([1, 7, 8, 9, 10, length]) + [chance.randrange(channels)] * chance.choice([0, 1, 8, 9, length])
+    first, then = chance.choice([1, 7, 8, 9, 10, length]), chance.choice([0, 1, 8, 9, length])
+    return [CONTROL] * first + [chance.randrange(channels)] * then
 
 
 def control_alone(chance, channels, length):
@@ -36,8 +38,8 @@ def one_channel(chance, channels, length):
 
 def all_but_one(chance, channels, length):
     """Rounds without one of the channels, which waits with all that is issued."""
-    others = [it for it in range(channels) if it != chance.randrange(channels)]
-    turns = []
+    others, turns = list(range(channels)), []
+    others.remove(chance.choice(others))
     while len(turns) < length:
         chance.shuffle(others)
         turns += [CONTROL] * chance.choice([1, 1, 2, 9]) + others * chance.choice([1, 1, 8])
@@ -54,7 +56,8 @@ def none(chance, channels, length):
     return []
 
 
-KINDS = [in_any_order] * 3 + [in_runs] * 3 + [all_but_one] * 3 + [control_first] * 2 + [control_alone, one_channel, backward, none]
+KINDS = [
+    *[in_any_order] * 3, *[in_runs] * 3, *[all_but_one] * 3, *[control_first] * 2, control_alone, one_channel, backward, none]
 
 
 def word_of(chance, turn):
