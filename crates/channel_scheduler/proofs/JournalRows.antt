@@ -32,6 +32,11 @@ backwards : journal print_one (Control ∷ Control ∷ Lane 4 ∷ Lane 3 ∷ Lan
 unfolding after_turn
 backwards = refl
 
+-- A Show before a Put. The second C finds the Show open and the second 0 nothing to do, and so do both in the first round.
+open_show : journal (Show (Reg 0) ∷ put_one ∷ []) (Control ∷ Control ∷ Lane 0 ∷ Lane 0 ∷ []) 16 ≡ (0, 0) ∷ (1, 0) ∷ (2, 0) ∷ (3, 0) ∷ (4, 0) ∷ (0, 1) ∷ (1, 1) ∷ (2, 1) ∷ (3, 1) ∷ (4, 1) ∷ []
+unfolding after_turn
+open_show = refl
+
 -- Nine puts and a Show, by nine turns of control and nine of channel 0. The ninth C finds every backlog at 8, and the
 -- ninth 0 nothing to do. Channels 1 to 4 hold control up in the first round; the second issues operation 8, the third
 -- the Show, and the other rounds serve the four channels.

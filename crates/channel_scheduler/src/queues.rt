@@ -130,7 +130,7 @@ fn make_room(recent: &mut Vec<MicroOp>, waiting: usize)
         → backlog < 8
         → (waiting ≡ 0 → backlog ≡ 0)
         → (backlog ≤ length recent.new.items)
-            × (drop (length recent.new.items - backlog) recent.new.items ≡ drop (length recent.old.items - backlog) recent.old.items) }
+        × (drop (length recent.new.items - backlog) recent.new.items ≡ drop (length recent.old.items - backlog) recent.old.items) }
 {
     if waiting == 0 {
         recent.clear();

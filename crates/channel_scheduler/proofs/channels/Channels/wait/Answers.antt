@@ -10,8 +10,8 @@ loop-self-init g c =
     let book = c.args.faults.now in
     let start = c.args.self.now in
     elim c.if-is_in_rounds.branch [
-      then-is_in_rounds w ↦ subst (RunsWhile must_wait book start) (sym w.self-is) w.end_round.ensures
-    | else-is_in_rounds w ↦ subst (RunsWhile must_wait book start) (sym w.self-is) (RunsWhile-none must_wait book start)
+      | then-is_in_rounds w ↦ subst (RunsWhile must_wait book start) (sym w.self-is) w.end_round.ensures
+      | else-is_in_rounds w ↦ subst (RunsWhile must_wait book start) (sym w.self-is) (RunsWhile-none must_wait book start)
     ]
 
 pub loop-self-preserved : goal.loop-self-preserved

@@ -1,4 +1,4 @@
-use Rattle.std.proofs.Common.{◌-◌, eqb, eq-eqb, get_or, ap, subst, arith}
+use Rattle.std.proofs.Common.{◌-◌, eq-eqb, get_or, ap, subst, arith}
 use Rattle.std.specs.Int.{from_bool}
 use Rattle.std.proofs.lemmas.Bool.{ne_eqb}
 use Rattle.channel_scheduler.specs.Queues.{AreCounts}
@@ -20,7 +20,7 @@ invariant_of-self-else-backlog-eq-MOST c =
     let is = ap (λ xs. get_or xs c.args.i 0) c.deref.ensures.0 in
     let d = dropped inside.recent.items inside.backlogs.items _ c.args.i _ inside.waiting inside.full c.args.self.now c.self.view_is c.self.invariant.0 c.requires.channel c.requires.waits is c.put.ensures in (
       subst (AreCounts inside.recent.items c.put.new.backlogs.items (inside.waiting - 1)) (omega arith)
-      (subst (λ test. AreCounts inside.recent.items c.put.new.backlogs.items (inside.waiting - 1) (inside.full - from_bool test)) (ne_eqb _ _ c.if-backlog-eq-MOST.false) d.counts),
+          (subst (λ test. AreCounts inside.recent.items c.put.new.backlogs.items (inside.waiting - 1) (inside.full - from_bool test)) (ne_eqb _ _ c.if-backlog-eq-MOST.false) d.counts),
       c.self.invariant.1,
     )
 

@@ -1,4 +1,4 @@
-use Rattle.std.proofs.Common.{◌≡◌, ◌+◌, ◌≤◌, All, List, ◌++◌, ◌∷◌, [], eqb, length, map, ap, sym, ◌∙◌, subst, arith}
+use Rattle.std.proofs.Common.{◌≡◌, ◌+◌, ◌≤◌, All, ◌++◌, ◌∷◌, [], eqb, length, map, ap, sym, ◌∙◌, subst, arith}
 use Rattle.std.specs.List.{list_any}
 use Rattle.channel_scheduler.specs.Queues.{AreCounts, queues_of}
 use Rattle.channel_scheduler.proofs.QueueLemmas.{kept_each, backlogs-pushed, counts-pushed, queues-pushed, short_each, waiting_most}
@@ -34,7 +34,7 @@ invariant_of-self c =
     let each = kept_each inside.recent.items new inside.backlogs.items inside.waiting inside.full c.args.self.now c.self.view_is counts c.requires c.make_room.ensures.kept in
     let pushed = counts-pushed inside.recent.items new c.args.op inside.backlogs.items after inside.waiting inside.full c.eights-self-inside.result counts c.make_room.ensures.room each c.one_more_in_all.ensures c.eights-self-inside.ensures in (
       subst (λ recent. AreCounts recent after (inside.waiting + c.len-2.result) c.eights-self-inside.result) (sym c.push_last.ensures.items)
-      (subst (λ n. AreCounts (new ++ c.args.op ∷ []) after (inside.waiting + n) c.eights-self-inside.result) (sym c.len-2.ensures.value) pushed),
+          (subst (λ n. AreCounts (new ++ c.args.op ∷ []) after (inside.waiting + n) c.eights-self-inside.result) (sym c.len-2.ensures.value) pushed),
       omega (arith, c.self.invariant.1, c.make_room.ensures.capacity, c.push_last.ensures.capacity),
     )
 
