@@ -3,7 +3,6 @@ use Rattle.std.proofs.Common.{◌≡◌, ℕ, zero, suc, ◌+◌, ◌-◌, ◌<�
 use Rattle.std.specs.List.{list_any}
 use Rattle.std.proofs.Math.ListN.{set}
 use Rattle.std.proofs.lemmas.Bool.{or_cases, or_parts, or_left, or_right, eqb-true, ne_eqb, le-ltb, cases_lt, cond-false, not_from_false}
-use Rattle.std.proofs.lemmas.List.{set-get_or}
 use Rattle.channel_alu.specs.declared.operation.MicroOp.{MicroOp}
 use Rattle.fault_book.specs.Book.{Book}
 use Rattle.channel_lane.specs.Lane.{LaneState, answer_of, lane_after, lane_after_all}
@@ -13,7 +12,7 @@ use Rattle.lane_bank.specs.Bank.{no_lane, lane_at}
 use Rattle.fault_book.specs.declared.schedule.Turn.TheVariants.{Control, Lane}
 use Rattle.channel_scheduler.specs.declared.entry.Entry.{Entry}
 use Rattle.channel_scheduler.specs.Kept.{KeptJournal, noted}
-use Rattle.channel_scheduler.specs.Channels.{ChannelState, channel_state, IsAble, IsKept, no_operations, queue_at, is_behind, is_blocked, is_control, must_wait, next_turn, by_turn, advanced, performed, performed_from, passed, passes, issued, RunsWhile, caught_up, last_answers}
+use Rattle.channel_scheduler.specs.Channels.{ChannelState, channel_state, IsAble, IsKept, queue_at, is_behind, is_blocked, is_control, must_wait, next_turn, by_turn, advanced, performed, performed_from, passed, passes, issued, RunsWhile, caught_up, last_answers}
 use Rattle.channel_scheduler.proofs.CatchingLemmas.{Place-performed, Keeps-passes, length-caught_up, caught_up-at, caught_up-issued, last_answers-issued, last_answers-settled}
 
 pub RunsWhile-none : (test : ChannelState → Bool) (book : Book) (s : ChannelState) → RunsWhile test book s s

@@ -4,7 +4,7 @@ use Rattle.std.specs.Prelude.{sum, count_by, remove}
 use Rattle.std.specs.Int.{from_bool}
 use Rattle.std.specs.List.{list_any}
 use Rattle.std.proofs.Math.ListN.{set}
-use Rattle.std.proofs.lemmas.Bool.{cases_Bool, cases_eq, cond-true, cond-false, eqb-false, eq-eqb, ne_eqb, lt-ltb, not_from_false, false≢true}
+use Rattle.std.proofs.lemmas.Bool.{cases_Bool, cases_eq, cond-false, eqb-false, ne_eqb, lt-ltb, not_from_false, false≢true}
 use Rattle.std.proofs.lemmas.List.{length-append, length-drop, length-map, length-set, length-replicate, get_or-map, map-set, drop-drop, drop-append-le}
 use Rattle.std.proofs.lemmas.List.Elements.{All-head, All-tail, All-get_or, All-from_get_or, All-set, All-map, All-weaker, All-replicate}
 use Rattle.std.proofs.lemmas.List.Folds.{list_any_at, sum_by-replicate}

@@ -1,13 +1,11 @@
 -- Runs of a rack with queues: from one call to the next.
 use Rattle.std.proofs.Common.{◌≡◌, ℕ, zero, suc, ◌+◌, ◌-◌, ◌%◌, ◌<◌, ◌≤◌, Bool, true, false, not, ◌&&◌, ◌||◌, eqb, ltb, All, List, [], ◌∷◌, ◌++◌, map, length, take, drop, replicate, get_or, refl, sym, ap, ◌∙◌, subst, inl, inr, arith}
 use Rattle.std.specs.List.{list_any}
-use Rattle.std.proofs.Math.ListN.{set}
-use Rattle.std.proofs.lemmas.Bool.{cases_lt, cases_Bool, or_parts, or_left, or_right, and_from, lt-ltb, not_from_false, not_from_true, not-false, eqb-true, eqb-false, eq-eqb, ltb-true, cond_both, and_left, and_right, or_from, false≢true}
-use Rattle.std.proofs.lemmas.Nat.{mod_below}
+use Rattle.std.proofs.lemmas.Bool.{cases_lt, or_parts, or_left, or_right, and_from, lt-ltb, not_from_false, not_from_true, not-false, and_left, and_right, or_from, false≢true}
 use Rattle.std.proofs.Math.Nat.{zero-mod}
-use Rattle.std.proofs.lemmas.List.{length_push, drop-append-le, take_all, get_or_push, get_or_default, set_past, drop-drop, length-replicate, get_or-replicate}
-use Rattle.std.proofs.lemmas.List.Elements.{All-get_or, All-from_get_or, All-set, All-weaker, All-replicate}
-use Rattle.std.proofs.lemmas.List.Folds.{list_any_none, list_any_at, list_any-append, Any-from_list_any}
+use Rattle.std.proofs.lemmas.List.{length_push, drop-append-le, take_all, get_or_push, length-replicate, get_or-replicate}
+use Rattle.std.proofs.lemmas.List.Elements.{All-get_or, All-from_get_or, All-weaker, All-replicate}
+use Rattle.std.proofs.lemmas.List.Folds.{list_any_none, list_any_at, list_any-append}
 use Rattle.channel_alu.specs.declared.operation.MicroOp.{MicroOp}
 use Rattle.fault_book.specs.Book.{Book}
 use Rattle.fault_book.specs.Turns.{IsTurnOf}
@@ -18,12 +16,12 @@ use Rattle.fault_book.specs.declared.schedule.Turn.TheVariants.{Control, Lane}
 use Rattle.channel_lane.specs.Meaning.{is_show}
 use Rattle.channel_scheduler.specs.Counts as counts
 use Rattle.channel_scheduler.specs.Counts.{Standing, no_turn, performed_by, backlog, is_open, can_issue, after_issue, after_performing, after_turn, after_turns, turn_at, HasIssued, HasPerformed}
-use Rattle.channel_scheduler.specs.Channels.{ChannelState, no_operations, queue_at, is_behind, is_blocked, is_control, next_turn, must_wait, by_turn, advanced, passed, passes, issued, RunsWhile, caught_up, new_channels}
+use Rattle.channel_scheduler.specs.Channels.{ChannelState, no_operations, is_behind, is_blocked, is_control, next_turn, must_wait, passed, passes, issued, RunsWhile, caught_up, new_channels}
 use Rattle.channel_scheduler.specs.Moments.{operation_at, entry_of, Holds, HasUsed, StandsAt, IsFirst, IsMoment, IsUnderWay, HasEnded}
-use Rattle.channel_scheduler.proofs.CatchingLemmas.{Place-performed, caught_up-settled}
-use Rattle.channel_scheduler.proofs.CountLemmas.{IsSound, sound-turns, done-at, after_issue-is, after_wait-is, after_performing-is, after_idle-is, all_issued_gate, same_turns, issued_stays, open-longer}
+use Rattle.channel_scheduler.proofs.CatchingLemmas.{caught_up-settled}
+use Rattle.channel_scheduler.proofs.CountLemmas.{IsSound, sound-turns, after_issue-is, all_issued_gate, same_turns, issued_stays, open-longer}
 use Rattle.channel_scheduler.proofs.PlaceLemmas.{next_turn-at, HasUsed-more}
-use Rattle.channel_scheduler.proofs.StandingLemmas.{backlog-none, backlog-more, length-backlog, Holds-performed, Holds-issued, Holds-longer, Holds-lanes}
+use Rattle.channel_scheduler.proofs.StandingLemmas.{backlog-more, Holds-issued, Holds-longer, Holds-lanes}
 use Rattle.channel_scheduler.proofs.QueueLemmas.{none_at}
 use Rattle.channel_scheduler.proofs.TurnLemmas.{blocked_agrees, behind_some, settled_all, open_not, issued_from_performed, closed_stays, Holds-advanced, StandsAt-pass}
 

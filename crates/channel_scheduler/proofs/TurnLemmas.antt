@@ -1,29 +1,27 @@
 -- What turns that issue nothing leave: the channels stand where the turns bring them, and no Show opens.
-use Rattle.std.proofs.Common.{◌≡◌, ℕ, zero, suc, ◌+◌, ◌-◌, ◌%◌, ◌<◌, ◌≤◌, Bool, true, false, not, ◌&&◌, ◌||◌, eqb, ltb, All, List, [], ◌∷◌, ◌++◌, map, length, take, drop, replicate, get_or, refl, sym, ap, ◌∙◌, subst, inl, inr, arith}
+use Rattle.std.proofs.Common.{◌≡◌, ℕ, suc, ◌+◌, ◌-◌, ◌%◌, ◌<◌, ◌≤◌, Bool, true, false, not, ◌||◌, eqb, ltb, All, List, [], ◌∷◌, length, take, drop, get_or, refl, sym, ap, ◌∙◌, subst, inl, inr, arith}
 use Rattle.std.specs.List.{list_any}
 use Rattle.std.proofs.Math.ListN.{set}
-use Rattle.std.proofs.lemmas.Bool.{cases_lt, cases_Bool, or_parts, or_left, or_right, and_from, lt-ltb, not_from_false, not_from_true, not-false, eqb-true, eqb-false, eq-eqb, ltb-true, cond_both, and_left, and_right, or_from, false≢true}
+use Rattle.std.proofs.lemmas.Bool.{cases_lt, or_parts, not_from_true, not-false, eqb-true, eqb-false, eq-eqb, ltb-true, cond_both, false≢true}
 use Rattle.std.proofs.lemmas.Nat.{mod_below}
-use Rattle.std.proofs.Math.Nat.{zero-mod}
-use Rattle.std.proofs.lemmas.List.{length_push, drop-append-le, take_all, get_or_push, get_or_default, set_past, drop-drop, length-replicate, get_or-replicate}
-use Rattle.std.proofs.lemmas.List.Elements.{All-get_or, All-from_get_or, All-set, All-weaker, All-replicate}
-use Rattle.std.proofs.lemmas.List.Folds.{list_any_none, list_any_at, list_any-append, Any-from_list_any}
+use Rattle.std.proofs.lemmas.List.{get_or_default, set_past, drop-drop}
+use Rattle.std.proofs.lemmas.List.Elements.{All-get_or, All-from_get_or, All-set, All-weaker}
+use Rattle.std.proofs.lemmas.List.Folds.{list_any_none, Any-from_list_any}
 use Rattle.channel_alu.specs.declared.operation.MicroOp.{MicroOp}
 use Rattle.fault_book.specs.Book.{Book}
 use Rattle.fault_book.specs.Turns.{IsTurnOf}
-use Rattle.channel_lane.specs.Lane.{LaneState, lane_after_all}
-use Rattle.lane_bank.specs.Bank.{lane_at}
+use Rattle.channel_lane.specs.Lane.{LaneState}
 use Rattle.fault_book.specs.declared.schedule.Turn.{Turn}
 use Rattle.fault_book.specs.declared.schedule.Turn.TheVariants.{Control, Lane}
 use Rattle.channel_lane.specs.Meaning.{is_show}
 use Rattle.channel_scheduler.specs.Counts as counts
 use Rattle.channel_scheduler.specs.Counts.{Standing, no_turn, performed_by, backlog, is_open, can_issue, after_issue, after_performing, after_turn, after_turns, turn_at, HasIssued, HasPerformed}
-use Rattle.channel_scheduler.specs.Channels.{ChannelState, no_operations, queue_at, is_behind, is_blocked, is_control, next_turn, must_wait, by_turn, advanced, passed, passes, issued, RunsWhile, caught_up, new_channels}
-use Rattle.channel_scheduler.specs.Moments.{operation_at, entry_of, Holds, HasUsed, StandsAt, IsFirst, IsMoment, IsUnderWay, HasEnded}
-use Rattle.channel_scheduler.proofs.CatchingLemmas.{Place-performed, caught_up-settled}
-use Rattle.channel_scheduler.proofs.CountLemmas.{IsSound, sound-turns, done-at, after_issue-is, after_wait-is, after_performing-is, after_idle-is, all_issued_gate, same_turns, issued_stays, open-longer}
+use Rattle.channel_scheduler.specs.Channels.{ChannelState, no_operations, queue_at, is_behind, is_blocked, next_turn, by_turn, advanced, passed, issued}
+use Rattle.channel_scheduler.specs.Moments.{Holds, HasUsed, StandsAt}
+use Rattle.channel_scheduler.proofs.CatchingLemmas.{Place-performed}
+use Rattle.channel_scheduler.proofs.CountLemmas.{IsSound, sound-turns, done-at, after_wait-is, after_performing-is, after_idle-is}
 use Rattle.channel_scheduler.proofs.PlaceLemmas.{next_turn-at, HasUsed-more}
-use Rattle.channel_scheduler.proofs.StandingLemmas.{backlog-none, backlog-more, length-backlog, Holds-performed, Holds-issued, Holds-longer, Holds-lanes}
+use Rattle.channel_scheduler.proofs.StandingLemmas.{backlog-none, length-backlog, Holds-performed}
 use Rattle.channel_scheduler.proofs.QueueLemmas.{none_at}
 
 -- ---- tests on lists

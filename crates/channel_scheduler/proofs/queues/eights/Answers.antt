@@ -1,4 +1,4 @@
-use Rattle.std.proofs.Common.{◌≡◌, ◌<◌, ◌≤◌, eqb, length, get_or, sym, ap, arith}
+use Rattle.std.proofs.Common.{◌<◌, ◌≤◌, eqb, length, get_or, sym, ap, arith}
 use Rattle.std.specs.Int.{from_bool}
 use Rattle.std.proofs.lemmas.List.Elements.{All-weaker}
 use Rattle.channel_scheduler.proofs.QueueLemmas.{is_eight, count-more, no_eights, one_at_most}

@@ -1,4 +1,4 @@
-use Rattle.std.proofs.Common.{◌≡◌, ◌<◌, ◌≤◌, length, sym, ◌∙◌, subst, arith}
+use Rattle.std.proofs.Common.{◌<◌, ◌≤◌, length, sym, subst, arith}
 use Rattle.channel_scheduler.specs.Channels.{ChannelState, must_wait}
 use Rattle.channel_scheduler.proofs.KeepingLemmas.{remaining, smaller}
 use Rattle.channel_scheduler.proofs.LoopLemmas.{RunsWhile-more, must_wait_in_round, used_passed, not_control}

@@ -1,4 +1,4 @@
-use Rattle.std.proofs.Common.{◌-◌, eqb, eq-eqb, get_or, ap, subst, arith}
+use Rattle.std.proofs.Common.{◌-◌, eq-eqb, get_or, ap, subst, arith}
 use Rattle.std.specs.Int.{from_bool}
 use Rattle.std.proofs.lemmas.Bool.{ne_eqb}
 use Rattle.channel_scheduler.specs.Queues.{AreCounts}

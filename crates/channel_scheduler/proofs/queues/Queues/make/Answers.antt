@@ -1,4 +1,4 @@
-use Rattle.std.proofs.Common.{◌≡◌, replicate, ap, ◌∙◌, arith}
+use Rattle.std.proofs.Common.{replicate, ap, ◌∙◌, arith}
 use Rattle.channel_scheduler.proofs.QueueLemmas.{queues-new}
 use Rattle.channel_scheduler.proofs.queues.Queues.make.Goals as goal
 

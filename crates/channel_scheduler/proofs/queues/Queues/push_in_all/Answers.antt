@@ -1,4 +1,4 @@
-use Rattle.std.proofs.Common.{◌≡◌, ◌+◌, ◌≤◌, All, List, ◌++◌, ◌∷◌, [], eqb, length, map, ap, sym, ◌∙◌, subst, arith}
+use Rattle.std.proofs.Common.{◌≡◌, ◌+◌, ◌≤◌, All, ◌++◌, ◌∷◌, [], eqb, length, map, ap, sym, ◌∙◌, subst, arith}
 use Rattle.std.specs.List.{list_any}
 use Rattle.channel_scheduler.specs.Queues.{AreCounts, queues_of}
 use Rattle.channel_scheduler.proofs.QueueLemmas.{kept_each, backlogs-pushed, counts-pushed, queues-pushed, short_each, waiting_most}

@@ -1,5 +1,4 @@
 use Rattle.std.proofs.Common.{List, sym, ap, ◌∙◌, subst}
-use Rattle.channel_alu.specs.declared.operation.Place.{Place}
 use Rattle.channel_lane.specs.Lane.{LaneState}
 use Rattle.lane_bank.specs.Bank.{AllHavePlace, stored_in}
 use Rattle.channel_scheduler.proofs.CatchingLemmas.{caught_up-settled}
