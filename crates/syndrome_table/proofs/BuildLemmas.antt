@@ -1,5 +1,5 @@
 -- The numbers of a pass.
-use Rattle.std.proofs.Common.{◌≡◌, ℕ, zero, suc, ◌+◌, ◌-◌, ◌*◌, ◌/◌, ◌%◌, ◌<◌, ◌≤◌, ◌^◌, Bool, true, false, List, [], ◌∷◌, length, take, drop, get_or, refl, sym, ap, ◌∙◌, subst, arith, ℤ, pos, neg_ℤ, ◌*ℤ◌, ◌-ℤ◌, to_z, of_z, length-drop, ◌++◌}
+use Rattle.std.proofs.Common.{◌≡◌, ℕ, zero, suc, ◌+◌, ◌-◌, ◌*◌, ◌/◌, ◌%◌, ◌<◌, ◌≤◌, ◌^◌, Bool, true, false, List, [], ◌∷◌, length, take, drop, get_or, sym, ap, ◌∙◌, subst, arith, ℤ, pos, neg_ℤ, ◌*ℤ◌, to_z, of_z, length-drop, ◌++◌}
 use Rattle.std.specs.Int.{w128}
 use Rattle.std.specs.List.Sorted.{IsPermutation}
 use lib.Signed.{le_z, quot_z}
@@ -7,13 +7,13 @@ use borrow.Rule.Slice.PartMut.{post_of}
 use Rattle.std.proofs.lemmas.Int.{ints}
 use Rattle.std.proofs.lemmas.List.{get_or-take, get_or-drop, length-take-le, take-append-drop, take_all, drop_all, append-nil, length-append}
 use Rattle.std.proofs.lemmas.List.Sorted.{IsPermutation-append_right, length_permutation}
-use Rattle.std.proofs.Math.Nat.{mul-le-mul_left, mul_comm, mul-div_cancel', mod-eq_of_lt}
-use Rattle.number_theory.specs.Coprime.{IsInverse, product}
+use Rattle.std.proofs.Math.Nat.{mul-le-mul_left, mul-div_cancel'}
+use Rattle.number_theory.specs.Coprime.{product}
 use Rattle.moduli_sets.specs.Set.{ModuliSet, IsModuliSet, information_product, range_bound, radius}
 use Rattle.syndrome_table.specs.Entry.{signed, cofactor as cofactor_of}
 use Rattle.syndrome_table.specs.Filling.{AreCofactors, IsReal}
 use Rattle.syndrome_table.proofs.CaseLemmas.{info_in, modulus_positive}
-use Rattle.syndrome_table.proofs.CofactorLemmas.{IsCofactor, below_product, dvd_information}
+use Rattle.syndrome_table.proofs.CofactorLemmas.{below_product, dvd_information}
 use Rattle.syndrome_table.proofs.FilledLemmas.{natural_cofactor}
 use Rattle.syndrome_table.proofs.RealLemmas.{mod_times, times_residue}
 use Rattle.syndrome_table.proofs.ReadingLemmas.{product_small}

@@ -1,5 +1,5 @@
 -- A filled and sorted table is complete and ascends.
-use Rattle.std.proofs.Common.{◌≡◌, ◌≢◌, ℕ, zero, suc, ◌+◌, ◌*◌, ◌/◌, ◌<◌, ◌≤◌, Bool, true, false, if◌then◌else◌, List, [], ◌∷◌, length, get_or, map, ◌==◌, AllPairs, refl, sym, ap, ◌∙◌, subst, arith, inl, inr, ◌⊎◌, ℤ, pos, negsuc, neg_ℤ, ◌-ℤ◌, ◌*ℤ◌, ◌++◌}
+use Rattle.std.proofs.Common.{◌≡◌, ◌≢◌, ℕ, zero, suc, ◌+◌, ◌*◌, ◌/◌, ◌<◌, ◌≤◌, false, List, [], ◌∷◌, length, get_or, map, ◌==◌, AllPairs, refl, sym, ap, ◌∙◌, subst, arith, inl, inr, ℤ, pos, negsuc, neg_ℤ, ◌-ℤ◌, ◌*ℤ◌, ◌++◌}
 use Rattle.std.specs.List.Sorted.{IsPermutation, IsNonDecreasingBy}
 use Rattle.std.proofs.lemmas.Int.{ints}
 use Rattle.std.proofs.lemmas.Bool.{cases_lt}
@@ -10,17 +10,16 @@ use Rattle.std.proofs.lemmas.Map.Keys.{IsDistinct-IsPermutation}
 use Rattle.std.proofs.lemmas.Map.Made.{AllPairs-from_IsDistinct, IsDistinct-from_AllPairs}
 use Rattle.std.proofs.Math.Nat.{mul-pos, mul-div_cancel}
 use borrow.Author.Differences.{up, down}
-use Rattle.number_theory.specs.Residue.{residue}
 use Rattle.number_theory.proofs.ResidueLemmas.{residue-below}
 use Rattle.moduli_sets.specs.Set.{ModuliSet, IsModuliSet, redundant, information_product, range_bound, radius}
 use Rattle.moduli_sets.specs.Vector.{vector_of}
 use Rattle.syndrome_table.specs.declared.table.Entry.{Entry}
 use Rattle.syndrome_table.specs.Syndrome.{triple_of}
-use Rattle.syndrome_table.specs.Entry.{entry_triple, entry_key, key_of, signed, times_of, error_of, cofactor as cofactor_of}
-use Rattle.syndrome_table.specs.Table.{IsEntry, IsShift, IsComplete, Ascends, shift_of}
+use Rattle.syndrome_table.specs.Entry.{entry_key, key_of, times_of, error_of, cofactor as cofactor_of}
+use Rattle.syndrome_table.specs.Table.{IsEntry, IsComplete, Ascends, shift_of}
 use Rattle.syndrome_table.specs.Filling.{AreCofactors, IsReal, IsPassed, IsFilled, Lacks, first_of, turn_of}
 use Rattle.syndrome_table.proofs.CaseLemmas.{info_in, modulus_positive, one_difference, one_case}
-use Rattle.syndrome_table.proofs.CofactorLemmas.{IsCofactor, case_is_multiple, cancel, positive_factor, shift_up, shift_down}
+use Rattle.syndrome_table.proofs.CofactorLemmas.{IsCofactor, case_is_multiple, cancel, positive_factor}
 use Rattle.syndrome_table.proofs.ShiftLemmas.{case_of_entry, same_from_key, three_of, small_of}
 use Rattle.syndrome_table.proofs.VerdictLemmas.{count_is}
 

@@ -1,18 +1,17 @@
 -- Multiples of a cofactor: their first residues, and their entries.
-use Rattle.std.proofs.Common.{◌≡◌, ℕ, zero, suc, ◌+◌, ◌-◌, ◌*◌, ◌/◌, ◌%◌, ◌<◌, ◌≤◌, Bool, true, false, if◌then◌else◌, List, get_or, refl, sym, ap, ◌∙◌, subst, arith, inl, inr, ℤ, pos, negsuc, neg_ℤ, ◌-ℤ◌, ◌*ℤ◌}
+use Rattle.std.proofs.Common.{◌≡◌, ℕ, zero, suc, ◌+◌, ◌-◌, ◌*◌, ◌/◌, ◌%◌, ◌<◌, ◌≤◌, Bool, true, false, if◌then◌else◌, List, get_or, refl, sym, ap, ◌∙◌, subst, arith, inl, inr, ℤ, pos, negsuc, neg_ℤ, ◌*ℤ◌}
 use Rattle.std.proofs.lemmas.Int.{ints}
 use Rattle.std.proofs.lemmas.Bool.{cases_lt}
 use Rattle.std.proofs.Math.Nat.{mod-eq_of_lt, mod-lt, div-add-mod'}
 use Rattle.number_theory.specs.Coprime.{IsInverse}
 use Rattle.number_theory.specs.Residue.{residue}
 use Rattle.number_theory.proofs.ResidueLemmas.{residue-mul, residue-neg, residue_is, residue_same}
-use Rattle.moduli_sets.specs.Set.{ModuliSet, IsModuliSet, redundant, range_bound, radius}
+use Rattle.moduli_sets.specs.Set.{ModuliSet, IsModuliSet, redundant, range_bound}
 use Rattle.moduli_sets.specs.Vector.{vector_of}
 use Rattle.syndrome_table.specs.declared.table.Entry.{Entry}
 use Rattle.syndrome_table.specs.Entry.{entry_triple, signed, times_of, error_of, cofactor as cofactor_of}
 use Rattle.syndrome_table.specs.Table.{IsEntry, IsShift, shift_of}
 use Rattle.syndrome_table.specs.Filling.{AreCofactors, IsReal, first_of, turn_of}
-use Rattle.syndrome_table.proofs.CaseLemmas.{info_in, modulus_positive}
 use Rattle.syndrome_table.proofs.CofactorLemmas.{IsCofactor, shift_up, shift_down}
 use Rattle.syndrome_table.proofs.FilledLemmas.{turned, cofactor_is, natural_cofactor}
 

@@ -53,12 +53,7 @@ impl Pass {
 
     /// Puts the entries of channel i that have this first residue: there is at most one of a wrong integer above the
     /// right one, and one below.
-    fn add_channel(
-        &self,
-        i: usize,
-        first: u32,
-        table: &mut Vec<Entry>,
-    ) -> Result<(), AllocError>
+    fn add_channel(&self, i: usize, first: u32, table: &mut Vec<Entry>) -> Result<(), AllocError>
         requires channel { i < (set_of self.now.set).info }
         requires first { first < slice_index (set_of self.now.set).moduli (set_of self.now.set).info }
         requires filled { IsFilled (set_of self.now.set) self.now.cofactors table.old.items first (2 * i) }

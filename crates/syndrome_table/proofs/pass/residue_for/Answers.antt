@@ -1,7 +1,7 @@
-use Rattle.std.proofs.Common.{◌≡◌, ◌<◌, ◌*◌, ◌%◌, pos, neg_ℤ, ◌*ℤ◌, true, false, sym, ap, ◌∙◌, arith}
+use Rattle.std.proofs.Common.{◌≡◌, ◌*◌, ◌%◌, pos, neg_ℤ, ◌*ℤ◌, sym, ap, ◌∙◌, arith}
 use Rattle.number_theory.specs.Residue.{residue}
 use Rattle.syndrome_table.specs.Entry.{signed}
-use Rattle.syndrome_table.proofs.RealLemmas.{residue_of_down, residue_of_none, residue_of_up}
+use Rattle.syndrome_table.proofs.RealLemmas.{residue_of_none, residue_of_up}
 use Rattle.syndrome_table.proofs.pass.residue_for.Goals as goal
 
 pub returns-then-residue-eq0 : goal.returns-then-residue-eq0

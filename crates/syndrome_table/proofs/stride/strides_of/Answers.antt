@@ -1,4 +1,4 @@
-use Rattle.std.proofs.Common.{◌≡◌, ◌+◌, ◌*◌, ◌%◌, ◌<◌, ℕ, pos, length, get_or, to_z, of_z, slice_index, sym, ap, subst, ◌∙◌, arith, inl, inr}
+use Rattle.std.proofs.Common.{◌≡◌, ◌+◌, ◌*◌, ◌%◌, ◌<◌, pos, get_or, to_z, of_z, slice_index, sym, ap, subst, ◌∙◌, arith, inl, inr}
 use Rattle.std.specs.Int.{w128}
 use Rattle.std.proofs.Math.ListN.{set as put}
 use Rattle.std.proofs.Math.Nat.{mod-lt}
@@ -44,8 +44,7 @@ loop-i-preserved c =
       };
       second = c.residue_of.ensures ∙ ap (λ z. residue z c.modulus.result) kept ∙ ap (λ n. p % n) modulus_1;
       third = c.residue_of-in-loop-i.ensures ∙ ap (λ z. residue z c.modulus-in-loop-i.result) kept ∙ ap (λ n. p % n) modulus_2;
-    } in
-    (
+    } in (
       length-set xs i stride ∙ c.loop-i.invariant.0,
       λ j d h. elim (cases_eq j i) [
         | inr off ↦ subst (IsStride set j) (sym (get_or-set_other xs i j stride d off)) (c.loop-i.invariant.1 j d (omega arith))

@@ -1,4 +1,4 @@
-use Rattle.std.proofs.Common.{◌≡◌, ◌+◌, ◌*◌, ◌<◌, ◌≤◌, ◌++◌, [], ◌∷◌, List, true, false, if◌then◌else◌, get_or, slice_index, sym, ap, subst, ◌∙◌, arith}
+use Rattle.std.proofs.Common.{◌≡◌, ◌+◌, ◌*◌, List, if◌then◌else◌, sym, ap, subst, ◌∙◌, arith}
 use Rattle.moduli_sets.specs.Moduli.{set_of}
 use Rattle.syndrome_table.specs.declared.table.Entry.{Entry}
 use Rattle.syndrome_table.specs.Entry.{signed, times_of}

@@ -1,4 +1,4 @@
-use Rattle.std.proofs.Common.{◌≡◌, ◌*◌, ◌≤◌, subst, arith}
+use Rattle.std.proofs.Common.{◌≡◌, ◌*◌, subst, arith}
 use Rattle.moduli_sets.specs.Moduli.{set_of}
 use Rattle.syndrome_table.specs.Filling.{IsFilled}
 use Rattle.syndrome_table.proofs.FilledLemmas.{filled_permuted, next_first}

@@ -1,4 +1,4 @@
-use Rattle.std.proofs.Common.{◌≡◌, ◌+◌, ◌*◌, ◌%◌, pos, neg_ℤ, ◌*ℤ◌, get_or, slice_index, [], ◌∷◌, refl, sym, ap, ◌∙◌, arith}
+use Rattle.std.proofs.Common.{◌≡◌, ◌+◌, ◌%◌, pos, neg_ℤ, ◌*ℤ◌, get_or, slice_index, [], ◌∷◌, refl, sym, ap, ◌∙◌, arith}
 use Rattle.number_theory.specs.Residue.{residue}
 use Rattle.moduli_sets.specs.Moduli.{set_of}
 use Rattle.moduli_sets.specs.Set.{redundant}
