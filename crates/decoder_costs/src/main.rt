@@ -8,8 +8,7 @@ ghost use Rattle.moduli_sets.specs.Moduli.{set_of};
 
 use moduli_sets::{Moduli, SetName, Vector};
 use redundant_decoder::{Decoder, Projecting, Verdict};
-use std::env;
-use std::io;
+use std::{env, io};
 use syndrome_table::Syndromes;
 use word_readers::{residues_in, steps_in};
 
@@ -89,6 +88,9 @@ fn main(rt: HostRuntime) -> io::Result<()> {
     } else {
         verdicts_of(&Projecting::of(&job.set), &job.vector, &again, job.times)
     };
-    println!(rt; "clean {}, corrected {}, damaged {}", tally.clean, tally.corrected, tally.damaged)?;
+    println!(rt;
+        "clean {}, corrected {}, damaged {}",
+        tally.clean, tally.corrected, tally.damaged
+    )?;
     Ok(())
 }
