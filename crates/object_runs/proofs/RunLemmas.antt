@@ -277,3 +277,11 @@ module _ {K : Type 0} (puts : K → List ℕ → K → Type 0) (state : K → Si
     are = are;
     put = follows puts state old (run_lines set trace) (map journal_line entries) (told_ending (ending_of 0 trace)) mid status result new written ends next;
   }
+
+-- what is put by the plan and the book of a rack is put by those that it was made with
+pub same_run : {K : Type 0} (puts : K → List ℕ → K → Type 0) (state : K → SinkState) (set : ModuliSet) (words : List ℤ) (by : Book → Trace) (old : K) (result : Status) (new : K)
+    (plan made : List Turn × ℕ) (book given : Book) → plan ≡ made → book ≡ given → PutsRun puts state plan book set words (by book) old result new
+    → PutsRun puts state made given set words (by given) old result new
+same_run puts state set words by old result new plan made book given same_plan same_book h =
+    subst (λ (b : Book). PutsRun puts state made b set words (by b) old result new) same_book
+    (subst (λ (p : List Turn × ℕ). PutsRun puts state p book set words (by book) old result new) same_plan h)

@@ -80,7 +80,7 @@ fn run_on<B: Bank, D: Decoder, K: Sink>(
     let (status, machine) = put_run(object, rack, decoder, input, steps, sink);
     match status {
         Status::Unwritten => Status::Unwritten,
-        status => put_journal(machine.rack().journal(), status, sink),
+        _ => put_journal(machine.rack().journal(), status, sink),
     }
 }
 

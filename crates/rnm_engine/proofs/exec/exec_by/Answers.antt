@@ -11,8 +11,8 @@ use Rattle.rnm_engine.specs.Jobs.{Answer, Does, IsOwn, IsRunOf, IsScheduleAnswer
 use Rattle.rnm_engine.proofs.ExecLemmas.{refuses_turns, turned}
 use Rattle.rnm_engine.proofs.exec.exec_by.Goals as goal
 
-pub requires-run_object-turns : goal.requires-run_object-turns
-requires-run_object-turns g c =
+pub run_object-requires-clause-turns : goal.run_object-requires-clause-turns
+run_object-requires-clause-turns g c =
     subst (λ (set : ModuliSet). All (IsTurnOf (length set.moduli)) c.in-Ok.turns) (c.of.ensures ∙ ap set_of_name c.set.ensures) c.in-Ok.ensures.turns
 
 pub returns-in-Ok : goal.returns-in-Ok
