@@ -1,4 +1,4 @@
-use Rattle.std.proofs.Common.{List, ℕ, ◌∷◌, ◌++◌, ◌+◌, [], ◌≡◌, map, take, inr, refl, sym, subst, ◌∙◌, ap}
+use Rattle.std.proofs.Common.{List, ℕ, ◌∷◌, ◌++◌, ◌+◌, [], map, take, inr, refl, sym, subst, ◌∙◌, ap}
 use Rattle.std.proofs.lemmas.List.{map_more, take-map}
 use Rattle.outside.specs.Sink.{WroteAll, BrokeOff}
 use Rattle.outside.proofs.Runs.{WroteAll-none, WroteAll-push, BrokeOff-push}

@@ -29,6 +29,6 @@ returns-in-Err g c =
     let channels = length (set_of_name (set_of_object c.args.object.now)).moduli in
     let Is : List Turn → Answer → Type 0 =
     IsRunOf c.args.options.steps c.args.options.journal (program_of c.args.object.now) c.args.numbers.items c.args.book in
-    let first = subst (λ (set : ModuliSet). IsScheduleFault (length set.moduli) c.args.schedule.now c.in-Err.fault) (c.of.ensures ∙ ap set_of_name c.set.ensures) c.in-Err.ensures in
+    let first = subst (λ (set : ModuliSet). IsScheduleFault (length set.moduli) c.args.schedule.now c.in-Err.fault) (c.of.ensures ∙ ap set_of_name c.set.ensures) c.in-Err.ensures.text in
     subst (λ (stop : Stop). Does g.K.Sink.puts g.K.Sink.state old (IsOwn (IsScheduleAnswer channels c.args.schedule.now Is)) (Err stop) old) (sym c.stop_of_schedule.ensures)
     (refuses_turns g.K.Sink.puts g.K.Sink.state old channels c.args.schedule.now Is c.in-Err.fault first)
