@@ -1,8 +1,8 @@
 -- Loops of turns.
-use Rattle.std.proofs.Common.{◌≡◌, ℕ, zero, suc, ◌+◌, ◌-◌, ◌<◌, ◌≤◌, ◌^◌, Bool, true, false, not, ◌||◌, cond, eqb, ltb, All, List, [], ◌∷◌, ◌++◌, map, length, get_or, refl, sym, ap, ◌∙◌, subst, inl, inr, arith}
+use Rattle.std.proofs.Common.{◌≡◌, ℕ, zero, suc, ◌+◌, ◌-◌, ◌<◌, ◌≤◌, ◌^◌, Bool, true, false, not, ◌&&◌, ◌||◌, cond, eqb, ltb, All, List, [], ◌∷◌, ◌++◌, map, length, get_or, refl, sym, ap, ◌∙◌, subst, inl, inr, arith}
 use Rattle.std.specs.List.{list_any}
 use Rattle.std.proofs.Math.ListN.{set}
-use Rattle.std.proofs.lemmas.Bool.{or_cases, or_parts, or_left, or_right, eqb-true, ne_eqb, le-ltb, cases_lt, cond-false, not_from_false}
+use Rattle.std.proofs.lemmas.Bool.{and_parts, or_cases, or_parts, or_left, or_right, eqb-true, ne_eqb, le-ltb, cases_lt, cond-false, not_from_false}
 use Rattle.channel_alu.specs.declared.operation.MicroOp.{MicroOp}
 use Rattle.fault_book.specs.Book.{Book}
 use Rattle.channel_lane.specs.Lane.{LaneState, answer_of, lane_after, lane_after_all}
@@ -72,6 +72,16 @@ not_control s used place e = absurd (lane_not_control (s.round - 1) (sym (turn_i
   where
     lane_not_control : (i : ℕ) → Lane i ≡ Control → ⊥
     lane_not_control i h = cc
+
+not_zero : (n : ℕ) → not (eqb n 0) ≡ true → 0 < n
+not_zero zero h = absurd (cc)
+not_zero (suc n) h = omega arith
+
+-- something waits in a round that isn't over
+pub behind_in_round : (s : ChannelState) → (not (eqb s.round 0) && is_behind s) ≡ true → (0 < s.round) × (is_behind s ≡ true)
+behind_in_round s h =
+    let both = and_parts (not (eqb s.round 0)) (is_behind s) h in
+    (not_zero s.round both.0, both.1)
 
 -- where there is no room nothing is noted
 pub not_noted : (journal : KeptJournal) (entry : Entry) → ltb (length journal.entries) journal.room ≡ false → journal ≡ noted journal entry

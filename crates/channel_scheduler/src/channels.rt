@@ -1,4 +1,4 @@
-ghost use Rattle.std.specs.Prelude.{◌≡◌, ℕ, ◌+◌, ◌<◌, ◌≤◌, ◌^◌, All, length, false, IfOk, nat_le};
+ghost use Rattle.std.specs.Prelude.{◌≡◌, ℕ, ◌+◌, ◌<◌, ◌≤◌, ◌^◌, All, length, false, IfOk, nat_le, ◌&&◌, ◌==◌, not};
 ghost use Rattle.fault_book.specs.Turns.{IsTurnOf};
 ghost use Rattle.lane_bank.specs.Bank.{lane_at};
 ghost use Rattle.channel_scheduler.specs.Channels.{IsAble, IsKept, RunsWhile, advanced, is_behind, is_blocked, issued, must_wait, new_channels, next_turn, passed, performed, queue_at};
@@ -223,6 +223,24 @@ impl<B: Bank> Channels<B> {
         }
     }
 
+    /// Whether something waits in a round that isn't over.
+    fn is_behind_in_round(&self) -> bool
+        ensures answer { result ≡ (not (self.now.round == 0) && is_behind self.now) }
+        ensures kept { IsKept self.now }
+    {
+        self.round != 0 && self.queues.is_behind()
+    }
+
+    /// Turns up to that after which nothing waits, or else up to the end of the round, after the schedule.
+    fn drain_round(&mut self, faults: &Faults)
+        requires { length self.old.schedule ≤ self.old.used }
+        ensures { RunsWhile is_behind faults.now self.old self.new }
+    {
+        while self.is_behind_in_round() {
+            self.pass_in_round(faults);
+        }
+    }
+
     /// Turns up to that which can issue.
     pub(crate) fn wait(&mut self, faults: &Faults)
         ensures run { RunsWhile must_wait faults.now self.old self.new }
@@ -242,6 +260,9 @@ impl<B: Bank> Channels<B> {
         ensures ends { is_behind self.new ≡ false }
         ensures kept { IsKept self.new }
     {
+        if self.is_in_rounds() {
+            self.drain_round(faults);
+        }
         while self.is_behind() {
             self.pass(faults);
         }

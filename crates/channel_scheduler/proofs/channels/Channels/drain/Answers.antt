@@ -1,8 +1,18 @@
 use Rattle.std.proofs.Common.{◌≡◌, ◌<◌, true, sym, ◌∙◌, subst}
-use Rattle.channel_scheduler.specs.Channels.{is_behind}
+use Rattle.channel_scheduler.specs.Channels.{RunsWhile, is_behind}
 use Rattle.channel_scheduler.proofs.KeepingLemmas.{remaining, smaller}
-use Rattle.channel_scheduler.proofs.LoopLemmas.{RunsWhile-more}
+use Rattle.channel_scheduler.proofs.LoopLemmas.{RunsWhile-none, RunsWhile-more}
 use Rattle.channel_scheduler.proofs.channels.Channels.drain.Goals as goal
+use Rattle.channel_scheduler.proofs.channels.Channels.drain.Goals.{then-is_in_rounds, else-is_in_rounds}
+
+pub loop-self-init : goal.loop-self-init
+loop-self-init g c =
+    let book = c.args.faults.now in
+    let start = c.args.self.now in
+    elim c.if-is_in_rounds.branch [
+      | then-is_in_rounds w ↦ subst (RunsWhile is_behind book start) (sym w.self-is) w.drain_round.ensures
+      | else-is_in_rounds w ↦ subst (RunsWhile is_behind book start) (sym w.self-is) (RunsWhile-none is_behind book start)
+    ]
 
 pub loop-self-preserved : goal.loop-self-preserved
 loop-self-preserved g c =
