@@ -14,9 +14,16 @@ use Rattle.selector.proofs.RowsBasis.{named, range, pocket}
 -- var i: 0..9;
 -- for i := 1 to 3 do print i; end
 abbrev counting : Program
-counting = record { declarations = (Var (named (codes "i") 1) (range (pos 0) (pos 9)) 1 ∷ []); statements = (For (named (codes "i") 2) (Number (pos 1) 2) (Number (pos 3) 2) (Print (Name (named (codes "i") 2)) 2 ∷ []) 2 ∷ []) }
+counting = record {
+  declarations = Var (named (codes "i") 1) (range (pos 0) (pos 9)) 1 ∷ [];
+  statements =
+      For (named (codes "i") 2) (Number (pos 1) 2) (Number (pos 3) 2)
+      (Print (Name (named (codes "i") 2)) 2 ∷ []) 2 ∷ [];
+}
 
-pub counting_code : program_code pocket counting ≡ Ldi 0 (pos 1) ∷ Ldi 1 (pos 3) ∷ Blt 1 0 15 ∷ St 0 1 ∷ St 1 2 ∷ St 0 0 ∷ Ld 0 0 ∷ Out 0 ∷ Ld 0 1 ∷ Ld 1 2 ∷ Beq 0 1 15 ∷ Ldi 1 (pos 1) ∷ Add 0 0 1 ∷ St 0 1 ∷ Jmp 5 ∷ Halt ∷ []
+pub counting_code : program_code pocket counting
+    ≡ Ldi 0 (pos 1) ∷ Ldi 1 (pos 3) ∷ Blt 1 0 15 ∷ St 0 1 ∷ St 1 2 ∷ St 0 0 ∷ Ld 0 0 ∷ Out 0 ∷ Ld 0 1 ∷ Ld 1 2 ∷
+    Beq 0 1 15 ∷ Ldi 1 (pos 1) ∷ Add 0 0 1 ∷ St 0 1 ∷ Jmp 5 ∷ Halt ∷ []
 counting_code = rw (fold-For, fold-Print, fold-Name, fold-Number, fold-Number, fold-Number, fold-Number)
 
 pub counting_data : program_data pocket counting ≡ pos 0 ∷ pos 0 ∷ pos 0 ∷ []
@@ -26,9 +33,14 @@ counting_data = rw (fold-For, fold-Print)
 -- for i :=
 -- 8 to 12 do end
 abbrev tested_by_the_high_bound : Program
-tested_by_the_high_bound = record { declarations = (Var (named (codes "i") 1) (range (pos 0) (pos 9)) 1 ∷ []); statements = (For (named (codes "i") 2) (Number (pos 8) 3) (Number (pos 12) 3) [] 2 ∷ []) }
+tested_by_the_high_bound = record {
+  declarations = Var (named (codes "i") 1) (range (pos 0) (pos 9)) 1 ∷ [];
+  statements = For (named (codes "i") 2) (Number (pos 8) 3) (Number (pos 12) 3) [] 2 ∷ [];
+}
 
-pub tested_by_the_high_bound_code : program_code pocket tested_by_the_high_bound ≡ Ldi 0 (pos 8) ∷ Ldi 1 (pos 12) ∷ Blt 1 0 14 ∷ St 0 1 ∷ St 1 2 ∷ Chk 0 (pos 0) (pos 9) 2 ∷ St 0 0 ∷ Ld 0 1 ∷ Ld 1 2 ∷ Beq 0 1 14 ∷ Ldi 1 (pos 1) ∷ Add 0 0 1 ∷ St 0 1 ∷ Jmp 5 ∷ Halt ∷ []
+pub tested_by_the_high_bound_code : program_code pocket tested_by_the_high_bound
+    ≡ Ldi 0 (pos 8) ∷ Ldi 1 (pos 12) ∷ Blt 1 0 14 ∷ St 0 1 ∷ St 1 2 ∷ Chk 0 (pos 0) (pos 9) 2 ∷ St 0 0 ∷
+    Ld 0 1 ∷ Ld 1 2 ∷ Beq 0 1 14 ∷ Ldi 1 (pos 1) ∷ Add 0 0 1 ∷ St 0 1 ∷ Jmp 5 ∷ Halt ∷ []
 tested_by_the_high_bound_code = rw (fold-For, fold-Number, fold-Number, fold-Number, fold-Number)
 
 pub tested_by_the_high_bound_data : program_data pocket tested_by_the_high_bound ≡ pos 0 ∷ pos 0 ∷ pos 0 ∷ []
@@ -38,12 +50,20 @@ tested_by_the_high_bound_data = rw (fold-For)
 -- var n: 2..9;
 -- for i := n to 5 do end
 abbrev tested_by_the_low_bound : Program
-tested_by_the_low_bound = record { declarations = (Var (named (codes "i") 1) (range (pos 3) (pos 9)) 1 ∷ Var (named (codes "n") 2) (range (pos 2) (pos 9)) 2 ∷ []); statements = (For (named (codes "i") 3) (Name (named (codes "n") 3)) (Number (pos 5) 3) [] 3 ∷ []) }
+tested_by_the_low_bound = record {
+  declarations =
+      Var (named (codes "i") 1) (range (pos 3) (pos 9)) 1 ∷
+      Var (named (codes "n") 2) (range (pos 2) (pos 9)) 2 ∷ [];
+  statements = For (named (codes "i") 3) (Name (named (codes "n") 3)) (Number (pos 5) 3) [] 3 ∷ [];
+}
 
-pub tested_by_the_low_bound_code : program_code pocket tested_by_the_low_bound ≡ Ld 0 1 ∷ Ldi 1 (pos 5) ∷ Blt 1 0 14 ∷ St 0 2 ∷ St 1 3 ∷ Chk 0 (pos 3) (pos 9) 3 ∷ St 0 0 ∷ Ld 0 2 ∷ Ld 1 3 ∷ Beq 0 1 14 ∷ Ldi 1 (pos 1) ∷ Add 0 0 1 ∷ St 0 2 ∷ Jmp 5 ∷ Halt ∷ []
+pub tested_by_the_low_bound_code : program_code pocket tested_by_the_low_bound
+    ≡ Ld 0 1 ∷ Ldi 1 (pos 5) ∷ Blt 1 0 14 ∷ St 0 2 ∷ St 1 3 ∷ Chk 0 (pos 3) (pos 9) 3 ∷ St 0 0 ∷ Ld 0 2 ∷
+    Ld 1 3 ∷ Beq 0 1 14 ∷ Ldi 1 (pos 1) ∷ Add 0 0 1 ∷ St 0 2 ∷ Jmp 5 ∷ Halt ∷ []
 tested_by_the_low_bound_code = rw (fold-For, fold-Name, fold-Name, fold-Number)
 
-pub tested_by_the_low_bound_data : program_data pocket tested_by_the_low_bound ≡ pos 3 ∷ pos 2 ∷ pos 0 ∷ pos 0 ∷ []
+pub tested_by_the_low_bound_data : program_data pocket tested_by_the_low_bound
+    ≡ pos 3 ∷ pos 2 ∷ pos 0 ∷ pos 0 ∷ []
 tested_by_the_low_bound_data = rw (fold-For)
 
 -- neither the high bound of the first nor the low bound of the last counts:
@@ -52,9 +72,17 @@ tested_by_the_low_bound_data = rw (fold-For)
 -- var n: -50..9;
 -- for i := m to n do end
 abbrev not_tested : Program
-not_tested = record { declarations = (Var (named (codes "i") 1) (range (pos 3) (pos 9)) 1 ∷ Var (named (codes "m") 2) (range (pos 3) (pos 50)) 2 ∷ Var (named (codes "n") 3) (range (neg_ℤ (pos 50)) (pos 9)) 3 ∷ []); statements = (For (named (codes "i") 4) (Name (named (codes "m") 4)) (Name (named (codes "n") 4)) [] 4 ∷ []) }
+not_tested = record {
+  declarations =
+      Var (named (codes "i") 1) (range (pos 3) (pos 9)) 1 ∷
+      Var (named (codes "m") 2) (range (pos 3) (pos 50)) 2 ∷
+      Var (named (codes "n") 3) (range (neg_ℤ (pos 50)) (pos 9)) 3 ∷ [];
+  statements = For (named (codes "i") 4) (Name (named (codes "m") 4)) (Name (named (codes "n") 4)) [] 4 ∷ [];
+}
 
-pub not_tested_code : program_code pocket not_tested ≡ Ld 0 1 ∷ Ld 1 2 ∷ Blt 1 0 13 ∷ St 0 3 ∷ St 1 4 ∷ St 0 0 ∷ Ld 0 3 ∷ Ld 1 4 ∷ Beq 0 1 13 ∷ Ldi 1 (pos 1) ∷ Add 0 0 1 ∷ St 0 3 ∷ Jmp 5 ∷ Halt ∷ []
+pub not_tested_code : program_code pocket not_tested
+    ≡ Ld 0 1 ∷ Ld 1 2 ∷ Blt 1 0 13 ∷ St 0 3 ∷ St 1 4 ∷ St 0 0 ∷ Ld 0 3 ∷ Ld 1 4 ∷ Beq 0 1 13 ∷ Ldi 1 (pos 1) ∷
+    Add 0 0 1 ∷ St 0 3 ∷ Jmp 5 ∷ Halt ∷ []
 not_tested_code = rw (fold-For, fold-Name, fold-Name, fold-Name, fold-Name)
 
 pub not_tested_data : program_data pocket not_tested ≡ pos 3 ∷ pos 3 ∷ pos 0 ∷ pos 0 ∷ pos 0 ∷ []
@@ -64,32 +92,52 @@ not_tested_data = rw (fold-For)
 -- var i: 0..9;
 -- for i := 20 to 10 do end
 abbrev tested_though_it_never_turns : Program
-tested_though_it_never_turns = record { declarations = (Var (named (codes "i") 1) (range (pos 0) (pos 9)) 1 ∷ []); statements = (For (named (codes "i") 2) (Number (pos 20) 2) (Number (pos 10) 2) [] 2 ∷ []) }
+tested_though_it_never_turns = record {
+  declarations = Var (named (codes "i") 1) (range (pos 0) (pos 9)) 1 ∷ [];
+  statements = For (named (codes "i") 2) (Number (pos 20) 2) (Number (pos 10) 2) [] 2 ∷ [];
+}
 
-pub tested_though_it_never_turns_code : program_code pocket tested_though_it_never_turns ≡ Ldi 0 (pos 20) ∷ Ldi 1 (pos 10) ∷ Blt 1 0 14 ∷ St 0 1 ∷ St 1 2 ∷ Chk 0 (pos 0) (pos 9) 2 ∷ St 0 0 ∷ Ld 0 1 ∷ Ld 1 2 ∷ Beq 0 1 14 ∷ Ldi 1 (pos 1) ∷ Add 0 0 1 ∷ St 0 1 ∷ Jmp 5 ∷ Halt ∷ []
+pub tested_though_it_never_turns_code : program_code pocket tested_though_it_never_turns
+    ≡ Ldi 0 (pos 20) ∷ Ldi 1 (pos 10) ∷ Blt 1 0 14 ∷ St 0 1 ∷ St 1 2 ∷ Chk 0 (pos 0) (pos 9) 2 ∷ St 0 0 ∷
+    Ld 0 1 ∷ Ld 1 2 ∷ Beq 0 1 14 ∷ Ldi 1 (pos 1) ∷ Add 0 0 1 ∷ St 0 1 ∷ Jmp 5 ∷ Halt ∷ []
 tested_though_it_never_turns_code = rw (fold-For, fold-Number, fold-Number, fold-Number, fold-Number)
 
-pub tested_though_it_never_turns_data : program_data pocket tested_though_it_never_turns ≡ pos 0 ∷ pos 0 ∷ pos 0 ∷ []
+pub tested_though_it_never_turns_data : program_data pocket tested_though_it_never_turns
+    ≡ pos 0 ∷ pos 0 ∷ pos 0 ∷ []
 tested_though_it_never_turns_data = rw (fold-For)
 
 -- var i: 0..9;
 -- for i := 20 to 5 do end
 abbrev not_tested_though_it_never_turns : Program
-not_tested_though_it_never_turns = record { declarations = (Var (named (codes "i") 1) (range (pos 0) (pos 9)) 1 ∷ []); statements = (For (named (codes "i") 2) (Number (pos 20) 2) (Number (pos 5) 2) [] 2 ∷ []) }
+not_tested_though_it_never_turns = record {
+  declarations = Var (named (codes "i") 1) (range (pos 0) (pos 9)) 1 ∷ [];
+  statements = For (named (codes "i") 2) (Number (pos 20) 2) (Number (pos 5) 2) [] 2 ∷ [];
+}
 
-pub not_tested_though_it_never_turns_code : program_code pocket not_tested_though_it_never_turns ≡ Ldi 0 (pos 20) ∷ Ldi 1 (pos 5) ∷ Blt 1 0 13 ∷ St 0 1 ∷ St 1 2 ∷ St 0 0 ∷ Ld 0 1 ∷ Ld 1 2 ∷ Beq 0 1 13 ∷ Ldi 1 (pos 1) ∷ Add 0 0 1 ∷ St 0 1 ∷ Jmp 5 ∷ Halt ∷ []
+pub not_tested_though_it_never_turns_code : program_code pocket not_tested_though_it_never_turns
+    ≡ Ldi 0 (pos 20) ∷ Ldi 1 (pos 5) ∷ Blt 1 0 13 ∷ St 0 1 ∷ St 1 2 ∷ St 0 0 ∷ Ld 0 1 ∷ Ld 1 2 ∷ Beq 0 1 13 ∷
+    Ldi 1 (pos 1) ∷ Add 0 0 1 ∷ St 0 1 ∷ Jmp 5 ∷ Halt ∷ []
 not_tested_though_it_never_turns_code = rw (fold-For, fold-Number, fold-Number, fold-Number, fold-Number)
 
-pub not_tested_though_it_never_turns_data : program_data pocket not_tested_though_it_never_turns ≡ pos 0 ∷ pos 0 ∷ pos 0 ∷ []
+pub not_tested_though_it_never_turns_data : program_data pocket not_tested_though_it_never_turns
+    ≡ pos 0 ∷ pos 0 ∷ pos 0 ∷ []
 not_tested_though_it_never_turns_data = rw (fold-For)
 
 -- var x: 0..9;
 -- while
 -- x < 3 limit 5 do print x; end
 abbrev turning : Program
-turning = record { declarations = (Var (named (codes "x") 1) (range (pos 0) (pos 9)) 1 ∷ []); statements = (While (record { left = (Name (named (codes "x") 3)); comparison = comparison.Less; right = (Number (pos 3) 3); line = 3 }) (pos 5) (Print (Name (named (codes "x") 3)) 3 ∷ []) 2 ∷ []) }
+turning = record {
+  declarations = Var (named (codes "x") 1) (range (pos 0) (pos 9)) 1 ∷ [];
+  statements =
+      While
+      (record { left = Name (named (codes "x") 3); comparison = comparison.Less; right = Number (pos 3) 3; line = 3 })
+      (pos 5) (Print (Name (named (codes "x") 3)) 3 ∷ []) 2 ∷ [];
+}
 
-pub turning_code : program_code pocket turning ≡ Ldi 0 (pos 0) ∷ St 0 1 ∷ Ld 0 0 ∷ Ldi 1 (pos 3) ∷ Blt 0 1 6 ∷ Jmp 16 ∷ Ld 0 1 ∷ Ldi 1 (pos 5) ∷ Blt 0 1 10 ∷ Trp 5 2 ∷ Ldi 1 (pos 1) ∷ Add 0 0 1 ∷ St 0 1 ∷ Ld 0 0 ∷ Out 0 ∷ Jmp 2 ∷ Halt ∷ []
+pub turning_code : program_code pocket turning
+    ≡ Ldi 0 (pos 0) ∷ St 0 1 ∷ Ld 0 0 ∷ Ldi 1 (pos 3) ∷ Blt 0 1 6 ∷ Jmp 16 ∷ Ld 0 1 ∷ Ldi 1 (pos 5) ∷
+    Blt 0 1 10 ∷ Trp 5 2 ∷ Ldi 1 (pos 1) ∷ Add 0 0 1 ∷ St 0 1 ∷ Ld 0 0 ∷ Out 0 ∷ Jmp 2 ∷ Halt ∷ []
 turning_code = rw (fold-While, fold-Print, fold-Name, fold-Number)
 
 pub turning_data : program_data pocket turning ≡ pos 0 ∷ pos 0 ∷ []
@@ -98,9 +146,17 @@ turning_data = rw (fold-While, fold-Print)
 -- var x: 0..9;
 -- while x <> 3 limit 5 do end
 abbrev turning_while_unequal : Program
-turning_while_unequal = record { declarations = (Var (named (codes "x") 1) (range (pos 0) (pos 9)) 1 ∷ []); statements = (While (record { left = (Name (named (codes "x") 2)); comparison = comparison.NotEqual; right = (Number (pos 3) 2); line = 2 }) (pos 5) [] 2 ∷ []) }
+turning_while_unequal = record {
+  declarations = Var (named (codes "x") 1) (range (pos 0) (pos 9)) 1 ∷ [];
+  statements =
+      While
+      (record { left = Name (named (codes "x") 2); comparison = comparison.NotEqual; right = Number (pos 3) 2; line = 2 })
+      (pos 5) [] 2 ∷ [];
+}
 
-pub turning_while_unequal_code : program_code pocket turning_while_unequal ≡ Ldi 0 (pos 0) ∷ St 0 1 ∷ Ld 0 0 ∷ Ldi 1 (pos 3) ∷ Beq 0 1 13 ∷ Ld 0 1 ∷ Ldi 1 (pos 5) ∷ Blt 0 1 9 ∷ Trp 5 2 ∷ Ldi 1 (pos 1) ∷ Add 0 0 1 ∷ St 0 1 ∷ Jmp 2 ∷ Halt ∷ []
+pub turning_while_unequal_code : program_code pocket turning_while_unequal
+    ≡ Ldi 0 (pos 0) ∷ St 0 1 ∷ Ld 0 0 ∷ Ldi 1 (pos 3) ∷ Beq 0 1 13 ∷ Ld 0 1 ∷ Ldi 1 (pos 5) ∷ Blt 0 1 9 ∷
+    Trp 5 2 ∷ Ldi 1 (pos 1) ∷ Add 0 0 1 ∷ St 0 1 ∷ Jmp 2 ∷ Halt ∷ []
 turning_while_unequal_code = rw (fold-While, fold-Name, fold-Number)
 
 pub turning_while_unequal_data : program_data pocket turning_while_unequal ≡ pos 0 ∷ pos 0 ∷ []
@@ -115,10 +171,45 @@ turning_while_unequal_data = rw (fold-While)
 -- end
 -- while 1 < 0 limit 1 do end
 abbrev loops_in_loops : Program
-loops_in_loops = record { declarations = (Var (named (codes "i") 1) (range (pos 0) (pos 9)) 1 ∷ Var (named (codes "j") 2) (range (pos 0) (pos 9)) 2 ∷ []); statements = (For (named (codes "i") 3) (Number (pos 0) 3) (Number (pos 1) 3) (While (record { left = (Name (named (codes "i") 4)); comparison = comparison.Less; right = (Number (pos 1) 4); line = 4 }) (pos 2) (For (named (codes "j") 4) (Number (pos 0) 4) (Number (pos 1) 4) [] 4 ∷ []) 4 ∷ For (named (codes "j") 5) (Number (pos 2) 5) (Number (pos 3) 5) [] 5 ∷ []) 3 ∷ While (record { left = (Number (pos 1) 7); comparison = comparison.Less; right = (Number (pos 0) 7); line = 7 }) (pos 1) [] 7 ∷ []) }
+loops_in_loops = record {
+  declarations =
+      Var (named (codes "i") 1) (range (pos 0) (pos 9)) 1 ∷
+      Var (named (codes "j") 2) (range (pos 0) (pos 9)) 2 ∷ [];
+  statements =
+      For (named (codes "i") 3) (Number (pos 0) 3) (Number (pos 1) 3)
+      (While
+      (record { left = Name (named (codes "i") 4); comparison = comparison.Less; right = Number (pos 1) 4; line = 4 })
+      (pos 2) (For (named (codes "j") 4) (Number (pos 0) 4) (Number (pos 1) 4) [] 4 ∷ []) 4 ∷
+      For (named (codes "j") 5) (Number (pos 2) 5) (Number (pos 3) 5) [] 5 ∷ []) 3 ∷
+      While
+      (record { left = Number (pos 1) 7; comparison = comparison.Less; right = Number (pos 0) 7; line = 7 })
+      (pos 1) [] 7 ∷ [];
+}
 
-pub loops_in_loops_code : program_code pocket loops_in_loops ≡ Ldi 0 (pos 0) ∷ Ldi 1 (pos 1) ∷ Blt 1 0 53 ∷ St 0 2 ∷ St 1 3 ∷ St 0 0 ∷ Ldi 0 (pos 0) ∷ St 0 4 ∷ Ld 0 0 ∷ Ldi 1 (pos 1) ∷ Blt 0 1 12 ∷ Jmp 33 ∷ Ld 0 4 ∷ Ldi 1 (pos 2) ∷ Blt 0 1 16 ∷ Trp 5 4 ∷ Ldi 1 (pos 1) ∷ Add 0 0 1 ∷ St 0 4 ∷ Ldi 0 (pos 0) ∷ Ldi 1 (pos 1) ∷ Blt 1 0 32 ∷ St 0 5 ∷ St 1 6 ∷ St 0 1 ∷ Ld 0 5 ∷ Ld 1 6 ∷ Beq 0 1 32 ∷ Ldi 1 (pos 1) ∷ Add 0 0 1 ∷ St 0 5 ∷ Jmp 24 ∷ Jmp 8 ∷ Ldi 0 (pos 2) ∷ Ldi 1 (pos 3) ∷ Blt 1 0 46 ∷ St 0 7 ∷ St 1 8 ∷ St 0 1 ∷ Ld 0 7 ∷ Ld 1 8 ∷ Beq 0 1 46 ∷ Ldi 1 (pos 1) ∷ Add 0 0 1 ∷ St 0 7 ∷ Jmp 38 ∷ Ld 0 2 ∷ Ld 1 3 ∷ Beq 0 1 53 ∷ Ldi 1 (pos 1) ∷ Add 0 0 1 ∷ St 0 2 ∷ Jmp 5 ∷ Ldi 0 (pos 0) ∷ St 0 9 ∷ Ldi 0 (pos 1) ∷ Ldi 1 (pos 0) ∷ Blt 0 1 59 ∷ Jmp 67 ∷ Ld 0 9 ∷ Ldi 1 (pos 1) ∷ Blt 0 1 63 ∷ Trp 5 7 ∷ Ldi 1 (pos 1) ∷ Add 0 0 1 ∷ St 0 9 ∷ Jmp 55 ∷ Halt ∷ []
-loops_in_loops_code = rw (fold-For, fold-For, fold-While, fold-While, fold-Name) (rw (fold-Number, fold-Number, fold-Number, fold-Number, fold-Number) (rw (fold-Number, fold-Number, fold-Number, fold-Number, fold-Number) (rw (fold-Number, fold-For, fold-Number, fold-Number, fold-Number) (rw (fold-Number)))))
+pub loops_in_loops_code : program_code pocket loops_in_loops
+    ≡ Ldi 0 (pos 0) ∷ Ldi 1 (pos 1) ∷ Blt 1 0 53 ∷ St 0 2 ∷ St 1 3 ∷ St 0 0 ∷ Ldi 0 (pos 0) ∷ St 0 4 ∷ Ld 0 0 ∷
+    Ldi 1 (pos 1) ∷ Blt 0 1 12 ∷ Jmp 33 ∷ Ld 0 4 ∷ Ldi 1 (pos 2) ∷ Blt 0 1 16 ∷ Trp 5 4 ∷ Ldi 1 (pos 1) ∷
+    Add 0 0 1 ∷ St 0 4 ∷ Ldi 0 (pos 0) ∷ Ldi 1 (pos 1) ∷ Blt 1 0 32 ∷ St 0 5 ∷ St 1 6 ∷ St 0 1 ∷ Ld 0 5 ∷
+    Ld 1 6 ∷ Beq 0 1 32 ∷ Ldi 1 (pos 1) ∷ Add 0 0 1 ∷ St 0 5 ∷ Jmp 24 ∷ Jmp 8 ∷ Ldi 0 (pos 2) ∷ Ldi 1 (pos 3) ∷
+    Blt 1 0 46 ∷ St 0 7 ∷ St 1 8 ∷ St 0 1 ∷ Ld 0 7 ∷ Ld 1 8 ∷ Beq 0 1 46 ∷ Ldi 1 (pos 1) ∷ Add 0 0 1 ∷ St 0 7 ∷
+    Jmp 38 ∷ Ld 0 2 ∷ Ld 1 3 ∷ Beq 0 1 53 ∷ Ldi 1 (pos 1) ∷ Add 0 0 1 ∷ St 0 2 ∷ Jmp 5 ∷ Ldi 0 (pos 0) ∷
+    St 0 9 ∷ Ldi 0 (pos 1) ∷ Ldi 1 (pos 0) ∷ Blt 0 1 59 ∷ Jmp 67 ∷ Ld 0 9 ∷ Ldi 1 (pos 1) ∷ Blt 0 1 63 ∷
+    Trp 5 7 ∷ Ldi 1 (pos 1) ∷ Add 0 0 1 ∷ St 0 9 ∷ Jmp 55 ∷ Halt ∷ []
+loops_in_loops_code =
+    rw (fold-For, fold-For, fold-While, fold-While, fold-Name) (rw (
+      fold-Number,
+      fold-Number,
+      fold-Number,
+      fold-Number,
+      fold-Number,
+    ) (rw (
+      fold-Number,
+      fold-Number,
+      fold-Number,
+      fold-Number,
+      fold-Number,
+    ) (rw (fold-Number, fold-For, fold-Number, fold-Number, fold-Number) (rw (fold-Number)))))
 
-pub loops_in_loops_data : program_data pocket loops_in_loops ≡ pos 0 ∷ pos 0 ∷ pos 0 ∷ pos 0 ∷ pos 0 ∷ pos 0 ∷ pos 0 ∷ pos 0 ∷ pos 0 ∷ pos 0 ∷ []
+pub loops_in_loops_data : program_data pocket loops_in_loops
+    ≡ pos 0 ∷ pos 0 ∷ pos 0 ∷ pos 0 ∷ pos 0 ∷ pos 0 ∷ pos 0 ∷ pos 0 ∷ pos 0 ∷ pos 0 ∷ []
 loops_in_loops_data = rw (fold-For, fold-For, fold-While, fold-While, fold-For)

@@ -1,11 +1,11 @@
 -- How long the code of statements is doesn't depend on the words and places in it.
-use Rattle.std.proofs.Common.{◌≡◌, ℕ, suc, ◌+◌, ℤ, Bool, true, false, List, [], ◌∷◌, ◌++◌, map, length, refl, sym, ap, subst}
+use Rattle.std.proofs.Common.{◌≡◌, ℕ, ◌+◌, ℤ, Bool, true, false, List, [], ◌∷◌, ◌++◌, map, length, refl, sym, ap, subst}
 use Rattle.std.specs.Prelude.{pos}
 use Rattle.moduli_sets.specs.Set.{ModuliSet}
 use Rattle.machine_table.specs.declared.instr.Instr.{Instr}
 use Rattle.machine_table.specs.declared.instr.Instr.TheVariants.{Ldi, Ld, St, Add, Jmp, Blt, Beq, Trp}
 use Rattle.plain_text.specs.Lookup.{lookup}
-use Rattle.source_tree.specs.Scope.{Scope, range_of, range_at as range_in_scope}
+use Rattle.source_tree.specs.Scope.{range_of, range_at as range_in_scope}
 use Rattle.source_tree.specs.declared.name.Name.{Name as SourceName}
 use Rattle.source_tree.specs.declared.name.Range.{Range}
 use Rattle.source_tree.specs.declared.expression.Comparison.{Comparison}
@@ -21,7 +21,7 @@ use Rattle.source_tree.proofs.Inductions.{EachOf, each_mapped, each_statement}
 use Rattle.range_inference.specs.Interval.{from_to, interval_of}
 use Rattle.selector.specs.Layout.{Layout, scope_of, params_of, word_at, params_at, range_at}
 use Rattle.selector.specs.Expressions.{leaving, interval_in}
-use Rattle.selector.specs.Statements.{Translated, in_order, check, checked_into, passed, test_of, is_empty, asked, chosen, for_turns, for_code, while_turn, while_code, arguments_code, translated_node, translated}
+use Rattle.selector.specs.Statements.{Translated, Part, joined, straight, in_order, check, checked_into, passed, test_of, tested, stored, stored_at, taken, printed, called, left, arguments, is_empty, asked, choice, for_turns, for_loop, while_turn, while_loop, arguments_code, translated_node, translated}
 use Rattle.selector.specs.Laws.{CodeLengthsStand}
 use Rattle.selector.proofs.CodeLengths.{both, last, leaving_alike}
 
@@ -61,22 +61,6 @@ front_alike NotEqual at start = refl
 
 module _ (set : ModuliSet) (layout other : Layout) (same : scope_of layout ≡ scope_of other) where
   -- ---- parts
-  -- of an expression that goes into what a name stands for
-  check_length : Expr → SourceName → ℕ → Scope → ℕ
-  check_length e x line scope = length (check (interval_of e (range_in_scope scope)) (range_of (lookup x.bytes scope)) line)
-
-  check_alike : (e : Expr) (x : SourceName) (line : ℕ)
-      → length (check (interval_in layout e) (range_at layout x) line) ≡ length (check (interval_in other e) (range_at other x) line)
-  unfolding check_length
-  check_alike e x line = ap (check_length e x line) same
-
-  into_alike : (e : Expr) (x : SourceName) (line w v : ℕ)
-      → length (checked_into (interval_in layout e) (range_at layout x) w line)
-      ≡ length (checked_into (interval_in other e) (range_at other x) v line)
-  into_alike e x line w v =
-      last (check (interval_in layout e) (range_at layout x) line) (check (interval_in other e) (range_at other x) line) _ _
-      (check_alike e x line)
-
   turn_alike : (a b : Expr) (x : SourceName) (line w v : ℕ)
       → length (checked_into (from_to (interval_in layout a).low (interval_in layout b).high) (range_at layout x) w line)
       ≡ length (checked_into (from_to (interval_in other a).low (interval_in other b).high) (range_at other x) v line)
@@ -128,17 +112,59 @@ module _ (set : ModuliSet) (layout other : Layout) (same : scope_of layout ≡ s
       (ap (λ scope. params_of (lookup x.bytes scope)) same)
       (arguments_alike es (params_at layout x) w v line)
 
+-- ---- parts
+-- a part whose length doesn't depend on words
+pub record SteadyPart (part : Part) : Type 0 where
+  pub code : (layout other : Layout) → scope_of layout ≡ scope_of other → length (part layout) ≡ length (part other)
+
+abbrev AreSteady : List Part → Type 0
+AreSteady [] = Unit {0}
+AreSteady (part ∷ parts) = SteadyPart part × AreSteady parts
+
+joined_steady : (parts : List Part) → AreSteady parts → SteadyPart (joined parts)
+joined_steady [] h = record { code = λ layout other same. refl }
+joined_steady (part ∷ parts) h = record {
+  code = λ layout other same.
+      both (part layout) (joined parts layout) (part other) (joined parts other)
+      (h.0.code layout other same) ((joined_steady parts h.1).code layout other same);
+}
+
+straight_steady : (parts : List Part) → AreSteady parts → Steady (straight parts)
+straight_steady parts h = record {
+  code = λ layout other w v at start same. (joined_steady parts h).code layout other same;
+}
+
+tested_steady : (e : Expr) (x : SourceName) (line : ℕ) → SteadyPart (tested e x line)
+tested_steady e x line = record {
+  code = λ layout other same.
+      ap (λ scope. length (check (interval_of e (range_in_scope scope)) (range_of (lookup x.bytes scope)) line)) same;
+}
+
+stored_steady : (x : SourceName) → SteadyPart (stored x)
+stored_steady x = record { code = λ layout other same. refl }
+
+stored_at_steady : (x : SourceName) (line : ℕ) → SteadyPart (stored_at x line)
+stored_at_steady x line = record { code = λ layout other same. refl }
+
+taken_steady : (x : SourceName) (line : ℕ) → SteadyPart (taken x line)
+taken_steady x line = record { code = λ layout other same. refl }
+
+printed_steady : SteadyPart printed
+printed_steady = record { code = λ layout other same. refl }
+
+called_steady : (x : SourceName) (line : ℕ) → SteadyPart (called x line)
+called_steady x line = record { code = λ layout other same. refl }
+
 -- ---- statements with statements in them
 module _ (set : ModuliSet) where
-  chosen_steady : (c : Condition) (one two : Translated) (none : Bool) (words : ℕ) → Steady one → Steady two
-      → Steady (record { words = words; code = chosen set c one two none })
-  chosen_steady c one two true words h k = record {
+  chosen_steady : (c : Condition) (one two : Translated) (none : Bool) → Steady one → Steady two → Steady (choice set c one two none)
+  chosen_steady c one two true h k = record {
     code = λ layout other w v at start same.
         passed_alike (asked set layout c at) (asked set other c start) (test_of c.comparison).jump (test_of c.comparison).jump (one.code layout w) (one.code other v) at start
         (asked_alike set layout other same c at start)
         (λ x y. h.code layout other w v x y same);
   }
-  chosen_steady c one two false words h k = record {
+  chosen_steady c one two false h k = record {
     code = λ layout other w v at start same.
         let x = at + length (asked set layout c at) + 1 in let y = start + length (asked set other c start) + 1 in
         let first = one.code layout w x in let again = one.code other v y in
@@ -174,9 +200,8 @@ module _ (set : ModuliSet) where
       (both list tail same_list same_tail (h.code layout other _ _ _ _ same) refl)))
       (λ p q. refl)
 
-  for_steady : (x : SourceName) (a b : Expr) (line words : ℕ) (body : Translated) → Steady body
-      → Steady (record { words = words; code = for_code set x a b line body })
-  for_steady x a b line words body h = record {
+  for_steady : (x : SourceName) (a b : Expr) (line : ℕ) (body : Translated) → Steady body → Steady (for_loop set x a b line body)
+  for_steady x a b line body h = record {
     code = λ layout other w v at start same.
         passed_alike
         (leaving set layout a 0 ++ leaving set layout b 1)
@@ -202,9 +227,8 @@ module _ (set : ModuliSet) where
       (last (body.code layout (w + 1) (at + length counted)) (body.code other (v + 1) (start + length same_counted)) _ _
       (h.code layout other _ _ _ _ same))
 
-  while_steady : (c : Condition) (limit : ℤ) (line words : ℕ) (body : Translated) → Steady body
-      → Steady (record { words = words; code = while_code set c limit line body })
-  while_steady c limit line words body h = record {
+  while_steady : (c : Condition) (limit : ℤ) (line : ℕ) (body : Translated) → Steady body → Steady (while_loop set c limit line body)
+  while_steady c limit line body h = record {
     code = λ layout other w v at start same.
         let head : List Instr = Ldi 0 (pos 0) ∷ (St 0 w ∷ []) in
         let same_head : List Instr = Ldi 0 (pos 0) ∷ (St 0 v ∷ []) in
@@ -217,6 +241,14 @@ module _ (set : ModuliSet) where
         (λ p q. while_turn_alike limit line body h layout other w v (at + 2) (start + 2) p q same);
   }
 
+  left_steady : (e : Expr) (d : ℕ) → SteadyPart (left set e d)
+  left_steady e d = record { code = λ layout other same. leaving_alike set layout other e d }
+
+  arguments_steady : (es : List Expr) (x : SourceName) (line : ℕ) → SteadyPart (arguments set es x line)
+  arguments_steady es x line = record {
+    code = λ layout other same. call_alike set layout other same es x (word_at layout x) (word_at other x) line;
+  }
+
   -- ---- all statements
   at_statement : (s : Statement) (t : Translated) → translated set s ≡ t → Steady t → Steady (translated set s)
   at_statement s t is h = subst Steady (sym is) h
@@ -225,26 +257,17 @@ module _ (set : ModuliSet) where
   lists body h = steady_in_order (map (translated set) body) (each_mapped Steady (translated set) body h)
 
   assign_steady : (p : Place) (e : Expr) (line : ℕ) → Steady (translated_node set (statement.Assign p e line))
-  assign_steady (place.Name x) e line = record {
-    code = λ layout other w v at start same.
-        both (leaving set layout e 0) (checked_into (interval_in layout e) (range_at layout x) (word_at layout x) line)
-        (leaving set other e 0) (checked_into (interval_in other e) (range_at other x) (word_at other x) line)
-        (leaving_alike set layout other e 0) (into_alike set layout other same e x line _ _);
-  }
-  assign_steady (place.Element x index) e line = record {
-    code = λ layout other w v at start same.
-        both (leaving set layout e 0) _ (leaving set other e 0) _ (leaving_alike set layout other e 0)
-        (both (check (interval_in layout e) (range_at layout x) line) _ (check (interval_in other e) (range_at other x) line) _
-        (check_alike set layout other same e x line)
-        (last (leaving set layout index 1) (leaving set other index 1) _ _ (leaving_alike set layout other index 1)));
-  }
+  assign_steady (place.Name x) e line =
+      straight_steady (left set e 0 ∷ tested e x line ∷ stored x ∷ []) (left_steady e 0, (tested_steady e x line, (stored_steady x, tt)))
+  assign_steady (place.Element x i) e line =
+      straight_steady (left set e 0 ∷ tested e x line ∷ left set i 1 ∷ stored_at x line ∷ [])
+      (left_steady e 0, (tested_steady e x line, (left_steady i 1, (stored_at_steady x line, tt))))
 
   read_steady : (p : Place) (line : ℕ) → Steady (translated_node set (statement.Read p line))
-  read_steady (place.Name x) line = record { code = λ layout other w v at start same. refl }
-  read_steady (place.Element x index) line = record {
-    code = λ layout other w v at start same.
-        ap suc (last (leaving set layout index 1) (leaving set other index 1) _ _ (leaving_alike set layout other index 1));
-  }
+  read_steady (place.Name x) line = straight_steady (taken x line ∷ stored x ∷ []) (taken_steady x line, (stored_steady x, tt))
+  read_steady (place.Element x i) line =
+      straight_steady (taken x line ∷ left set i 1 ∷ stored_at x x.line ∷ [])
+      (taken_steady x line, (left_steady i 1, (stored_at_steady x x.line, tt)))
 
   pub steady : (s : Statement) → Steady (translated set s)
   steady =
@@ -252,25 +275,21 @@ module _ (set : ModuliSet) where
       (λ p e line. at_statement (Assign p e line) _ (fold-Assign (translated_node set) p e line) (assign_steady p e line))
       (λ e line.
       at_statement (Print e line) _ (fold-Print (translated_node set) e line)
-      (record { code = λ layout other w v at start same. last (leaving set layout e 0) (leaving set other e 0) _ _ (leaving_alike set layout other e 0) }))
+      (straight_steady (left set e 0 ∷ printed ∷ []) (left_steady e 0, (printed_steady, tt))))
       (λ p line. at_statement (Read p line) _ (fold-Read (translated_node set) p line) (read_steady p line))
       (λ c first second line h k.
       at_statement (If c first second line) _ (fold-If (translated_node set) c first second line)
-      (chosen_steady c (in_order (map (translated set) first)) (in_order (map (translated set) second)) (is_empty (map (translated set) second)) _ (lists first h) (lists second k)))
+      (chosen_steady c (in_order (map (translated set) first)) (in_order (map (translated set) second))
+      (is_empty (map (translated set) second)) (lists first h) (lists second k)))
       (λ x a b body line h.
       at_statement (For x a b body line) _ (fold-For (translated_node set) x a b body line)
-      (for_steady x a b line _ (in_order (map (translated set) body)) (lists body h)))
+      (for_steady x a b line (in_order (map (translated set) body)) (lists body h)))
       (λ c limit body line h.
       at_statement (While c limit body line) _ (fold-While (translated_node set) c limit body line)
-      (while_steady c limit line _ (in_order (map (translated set) body)) (lists body h)))
-      (λ x arguments line.
-      at_statement (Call x arguments line) _ (fold-Call (translated_node set) x arguments line)
-      (record {
-        code = λ layout other w v at start same.
-            last (arguments_code set arguments (params_at layout x) (word_at layout x) line layout)
-            (arguments_code set arguments (params_at other x) (word_at other x) line other) _ _
-            (call_alike set layout other same arguments x _ _ line);
-      }))
+      (while_steady c limit line (in_order (map (translated set) body)) (lists body h)))
+      (λ x es line.
+      at_statement (Call x es line) _ (fold-Call (translated_node set) x es line)
+      (straight_steady (arguments set es x line ∷ called x line ∷ []) (arguments_steady es x line, (called_steady x line, tt))))
 
 pub code_lengths_stand : CodeLengthsStand
 code_lengths_stand set s layout other w v at start same = (steady set s).code layout other w v at start same

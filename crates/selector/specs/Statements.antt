@@ -23,12 +23,20 @@ pub record Translated : Type 0 where
   pub words : ℕ
   pub code : Layout → (w at : ℕ) → List Instr
 
--- without words and jumps
-abbrev pub straight : (Layout → List Instr) → Translated
-straight code = record { words = 0; code = λ layout w at. code layout }
+-- instructions without jumps, by a layout
+abbrev pub Part : Type 0
+Part = Layout → List Instr
+
+abbrev pub joined : List Part → Part
+joined [] layout = []
+joined (part ∷ parts) layout = part layout ++ joined parts layout
+
+-- parts, one after another, without words of their own
+abbrev pub straight : List Part → Translated
+straight parts = record { words = 0; code = λ layout w at. joined parts layout }
 
 abbrev pub in_order : List Translated → Translated
-in_order [] = straight (λ layout. [])
+in_order [] = straight []
 in_order (first ∷ more) = record {
   words = first.words + (in_order more).words;
   code = λ layout w at.
@@ -48,6 +56,28 @@ check interval range line = if lies_within interval range then [] else Chk 0 ran
 -- and goes into a word
 abbrev pub checked_into : Interval → Range → (w line : ℕ) → List Instr
 checked_into interval range w line = check interval range line ++ St 0 w ∷ []
+
+-- the test of e by the range of x
+abbrev pub tested : Expr → Name → (line : ℕ) → Part
+tested e x line layout = check (interval_in layout e) (range_at layout x) line
+
+-- register 0 goes into the word of x
+abbrev pub stored : Name → Part
+stored x layout = St 0 (word_at layout x) ∷ []
+
+-- register 0 goes into the element of x that register 1 tells
+abbrev pub stored_at : Name → (line : ℕ) → Part
+stored_at x line layout = Stx 0 1 (word_at layout x) (length_at layout x) line ∷ []
+
+-- the next number of the input, in the range of x, goes into register 0
+abbrev pub taken : Name → (line : ℕ) → Part
+taken x line layout = In 0 (range_at layout x).low (range_at layout x).high line ∷ []
+
+abbrev pub printed : Part
+printed layout = Out 0 ∷ []
+
+abbrev pub called : Name → (line : ℕ) → Part
+called x line layout = Call (entry_at layout x) line ∷ []
 
 -- a front, a jump to behind the body, and the body
 abbrev pub passed : List Instr → (ℕ → Instr) → (ℕ → List Instr) → (at : ℕ) → List Instr
@@ -90,6 +120,9 @@ module _ (set : ModuliSet) where
       passed (front ++ (test_of c.comparison).jump (start + length first + 1) ∷ first) (λ behind. Jmp behind)
       (two.code layout (w + one.words)) at
 
+  abbrev pub choice : Condition → (one two : Translated) → (none : Bool) → Translated
+  choice c one two none = record { words = one.words + two.words; code = chosen c one two none }
+
   -- the turns of a `for`: its counter is word w, its limit the next one, and register 0 holds the integer of the turn
   abbrev pub for_turns : Name → Interval → (line : ℕ) → Translated → Layout → (w at : ℕ) → List Instr
   for_turns name interval line body layout w at =
@@ -110,6 +143,10 @@ module _ (set : ModuliSet) where
       (for_turns name (from_to (interval_in layout first).low (interval_in layout last).high) line body layout w)
       at
 
+  -- two words: the counter and the limit
+  abbrev pub for_loop : Name → (first last : Expr) → (line : ℕ) → Translated → Translated
+  for_loop name first last line body = record { words = 2 + body.words; code = for_code name first last line body }
+
   -- a turn of a `while` from its condition on: its turns are counted in word w
   abbrev pub while_turn : (limit : ℤ) → (line again : ℕ) → Translated → Layout → (w at : ℕ) → List Instr
   while_turn limit line again body layout w at =
@@ -126,47 +163,37 @@ module _ (set : ModuliSet) where
       (while_turn limit line (at + 2) body layout w)
       at
 
-  -- arguments into the words of parameters, from word w on; what has no parameter is left out
-  abbrev pub arguments_code : List Expr → List Range → (w line : ℕ) → Layout → List Instr
+  -- one word: the count of turns
+  abbrev pub while_loop : Condition → (limit : ℤ) → (line : ℕ) → Translated → Translated
+  while_loop c limit line body = record { words = 1 + body.words; code = while_code c limit line body }
+
+  -- ---- parts of statements, with expressions e and names x
+  -- e is left in register d
+  abbrev pub left : Expr → (d : ℕ) → Part
+  left e d layout = leaving set layout e d
+
+  -- arguments into the words of the parameters of x; what has no parameter is left out
+  abbrev pub arguments_code : List Expr → List Range → (w line : ℕ) → Part
   arguments_code [] ranges w line layout = []
   arguments_code (e ∷ more) [] w line layout = []
   arguments_code (e ∷ more) (range ∷ ranges) w line layout =
       leaving set layout e 0 ++
       (checked_into (interval_in layout e) range w line ++ arguments_code more ranges (w + 1) line layout)
 
+  abbrev pub arguments : List Expr → Name → (line : ℕ) → Part
+  arguments es x line layout = arguments_code es (params_at layout x) (word_at layout x) line layout
+
   -- ---- statements, from what the statements in them are
   abbrev pub translated_node : statement.Statement-F Translated → Translated
-  translated_node (statement.Assign (place.Name name) e line) =
-      straight (λ layout.
-      leaving set layout e 0 ++ checked_into (interval_in layout e) (range_at layout name) (word_at layout name) line)
-  translated_node (statement.Assign (place.Element name index) e line) =
-      straight (λ layout.
-      leaving set layout e 0 ++ (check (interval_in layout e) (range_at layout name) line ++
-      (leaving set layout index 1 ++ Stx 0 1 (word_at layout name) (length_at layout name) line ∷ [])))
-  translated_node (statement.Print e line) = straight (λ layout. leaving set layout e 0 ++ Out 0 ∷ [])
-  translated_node (statement.Read (place.Name name) line) =
-      straight (λ layout.
-      In 0 (range_at layout name).low (range_at layout name).high line ∷ (St 0 (word_at layout name) ∷ []))
-  translated_node (statement.Read (place.Element name index) line) =
-      straight (λ layout.
-      In 0 (range_at layout name).low (range_at layout name).high line ∷
-      (leaving set layout index 1 ++ Stx 0 1 (word_at layout name) (length_at layout name) name.line ∷ []))
-  translated_node (statement.If c first second line) = record {
-    words = (in_order first).words + (in_order second).words;
-    code = chosen c (in_order first) (in_order second) (is_empty second);
-  }
-  translated_node (statement.For name first last body line) = record {
-    words = 2 + (in_order body).words;
-    code = for_code name first last line (in_order body);
-  }
-  translated_node (statement.While c limit body line) = record {
-    words = 1 + (in_order body).words;
-    code = while_code c limit line (in_order body);
-  }
-  translated_node (statement.Call name arguments line) =
-      straight (λ layout.
-      arguments_code arguments (params_at layout name) (word_at layout name) line layout ++
-      Call (entry_at layout name) line ∷ [])
+  translated_node (statement.Assign (place.Name x) e line) = straight (left e 0 ∷ tested e x line ∷ stored x ∷ [])
+  translated_node (statement.Assign (place.Element x i) e line) = straight (left e 0 ∷ tested e x line ∷ left i 1 ∷ stored_at x line ∷ [])
+  translated_node (statement.Print e line) = straight (left e 0 ∷ printed ∷ [])
+  translated_node (statement.Read (place.Name x) line) = straight (taken x line ∷ stored x ∷ [])
+  translated_node (statement.Read (place.Element x i) line) = straight (taken x line ∷ left i 1 ∷ stored_at x x.line ∷ [])
+  translated_node (statement.If c first second line) = choice c (in_order first) (in_order second) (is_empty second)
+  translated_node (statement.For x a b body line) = for_loop x a b line (in_order body)
+  translated_node (statement.While c limit body line) = while_loop c limit line (in_order body)
+  translated_node (statement.Call x es line) = straight (arguments es x line ∷ called x line ∷ [])
 
   abbrev pub translated : Statement → Translated
   translated s = fold-Statement Translated translated_node s
