@@ -9,3 +9,5 @@ pub mod RowsDepth
 pub mod RowsRefusals
 pub mod CodeLengths
 pub mod StatementLengths
+pub mod Jumps
+pub mod StatementJumps

@@ -5,8 +5,8 @@ use Rattle.source_tree.specs.declared.declaration.Program.{Program}
 use Rattle.source_tree.specs.declared.declaration.Declaration.TheVariants.{Var}
 use Rattle.source_tree.specs.declared.expression.Comparison.TheVariants as comparison
 use Rattle.source_tree.specs.declared.expression.Expr.{Number, Name}
-use Rattle.source_tree.specs.declared.statement.Statement.{Print, For, While}
-use Rattle.source_tree.proofs.FoldEquations.{fold-Number, fold-Name, fold-Print, fold-For, fold-While}
+use Rattle.source_tree.specs.declared.statement.Statement.{Print, If, For, While}
+use Rattle.source_tree.proofs.FoldEquations.{fold-Number, fold-Name, fold-Print, fold-If, fold-For, fold-While}
 use Rattle.selector.specs.Programs.{program_code, program_data}
 use Rattle.selector.proofs.RowsBasis.{named, range, pocket}
 
@@ -213,3 +213,41 @@ loops_in_loops_code =
 pub loops_in_loops_data : program_data pocket loops_in_loops
     ≡ pos 0 ∷ pos 0 ∷ pos 0 ∷ pos 0 ∷ pos 0 ∷ pos 0 ∷ pos 0 ∷ pos 0 ∷ pos 0 ∷ pos 0 ∷ []
 loops_in_loops_data = rw (fold-For, fold-For, fold-While, fold-While, fold-For)
+
+-- the words of the first list come before those of the second:
+-- if 1 < 2 then while 3 < 4 limit 5 do end
+-- else while 6 > 7 limit 8 do end end
+abbrev loops_in_branches : Program
+loops_in_branches = record {
+  declarations = [];
+  statements =
+      If (record { left = Number (pos 1) 1; comparison = comparison.Less; right = Number (pos 2) 1; line = 1 })
+      (While
+      (record { left = Number (pos 3) 1; comparison = comparison.Less; right = Number (pos 4) 1; line = 1 })
+      (pos 5) [] 1 ∷ [])
+      (While
+      (record { left = Number (pos 6) 2; comparison = comparison.Greater; right = Number (pos 7) 2; line = 2 })
+      (pos 8) [] 2 ∷ []) 1 ∷ [];
+}
+
+pub loops_in_branches_code : program_code pocket loops_in_branches
+    ≡ Ldi 0 (pos 1) ∷ Ldi 1 (pos 2) ∷ Blt 0 1 4 ∷ Jmp 19 ∷ Ldi 0 (pos 0) ∷ St 0 0 ∷ Ldi 0 (pos 3) ∷
+    Ldi 1 (pos 4) ∷ Blt 0 1 10 ∷ Jmp 18 ∷ Ld 0 0 ∷ Ldi 1 (pos 5) ∷ Blt 0 1 14 ∷ Trp 5 1 ∷ Ldi 1 (pos 1) ∷
+    Add 0 0 1 ∷ St 0 0 ∷ Jmp 6 ∷ Jmp 33 ∷ Ldi 0 (pos 0) ∷ St 0 1 ∷ Ldi 0 (pos 6) ∷ Ldi 1 (pos 7) ∷ Blt 1 0 25 ∷
+    Jmp 33 ∷ Ld 0 1 ∷ Ldi 1 (pos 8) ∷ Blt 0 1 29 ∷ Trp 5 2 ∷ Ldi 1 (pos 1) ∷ Add 0 0 1 ∷ St 0 1 ∷ Jmp 21 ∷
+    Halt ∷ []
+loops_in_branches_code =
+    rw (
+      fold-If,
+      fold-Number,
+      fold-Number,
+      fold-While,
+      fold-While,
+      fold-Number,
+      fold-Number,
+      fold-Number,
+      fold-Number,
+    )
+
+pub loops_in_branches_data : program_data pocket loops_in_branches ≡ pos 0 ∷ pos 0 ∷ []
+loops_in_branches_data = rw (fold-If, fold-While, fold-While)

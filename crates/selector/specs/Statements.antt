@@ -45,15 +45,15 @@ in_order (first ∷ more) = record {
 }
 
 -- ---- parts
--- every integer of an interval lies in a range
+-- neither end of an interval lies beyond a range: the low end not below it, the high end not above it
 abbrev pub lies_within : Interval → Range → Bool
 lies_within interval range = int_le range.low interval.low && int_le interval.high range.high
 
--- the integer in register 0 is tested by a range, where it may lie outside
+-- the integer in register 0, of which an interval is known, is tested by a range where it may lie beyond
 abbrev pub check : Interval → Range → (line : ℕ) → List Instr
 check interval range line = if lies_within interval range then [] else Chk 0 range.low range.high line ∷ []
 
--- and goes into a word
+-- it is tested, and goes into word w
 abbrev pub checked_into : Interval → Range → (w line : ℕ) → List Instr
 checked_into interval range w line = check interval range line ++ St 0 w ∷ []
 
@@ -79,7 +79,7 @@ printed layout = Out 0 ∷ []
 abbrev pub called : Name → (line : ℕ) → Part
 called x line layout = Call (entry_at layout x) line ∷ []
 
--- a front, a jump to behind the body, and the body
+-- a front, a jump to the place behind the body, and the body
 abbrev pub passed : List Instr → (ℕ → Instr) → (ℕ → List Instr) → (at : ℕ) → List Instr
 passed front jump body at =
     let start = at + length front + 1 in
@@ -135,6 +135,7 @@ module _ (set : ModuliSet) where
       (λ next. Ldi 1 (pos 1) ∷ (Add 0 0 1 ∷ (St 0 w ∷ (Jmp turn ∷ []))))
       at
 
+  -- the integers go from the low end of the first to the high end of the last; which of the two is greater doesn't count
   abbrev pub for_code : Name → (first last : Expr) → (line : ℕ) → Translated → Layout → (w at : ℕ) → List Instr
   for_code name first last line body layout w at =
       passed

@@ -9,4 +9,4 @@
 
 mod laws;
 
-pub use laws::code_lengths_stand;
+pub use laws::{code_lengths_stand, jumps_stay_within};
