@@ -36,9 +36,9 @@ def ask_second(words, files):
         return ask_of_one_file(words, files)
     if words[0] not in ("mean", "exec"):
         return None
-    options = dict(word[2:].split("=", 1) for word in words[1:] if word.startswith("--"))
+    options = {name: value for name, _, value in (word[2:].partition("=") for word in words[1:] if word.startswith("--"))}
     first, given = [word for word in words[1:] if not word.startswith("--")]
-    for name in (first, given, options.get("faults", "-")):
+    for name in (first, given, options.get("faults", "-"), options.get("schedule", "-")):
         if name != "-" and name not in files:
             return f"unread {name}\n".encode(), 3
     text, steps = b"" if given == "-" else files[given], int(options.get("steps", 1_000_000))
@@ -59,10 +59,12 @@ def ask_of_one_file(words, files):
 
 
 def ask_machine(content, text, options, files, steps):
-    """By the machine over plain integers; with faults, and where integers leave the range, by the one on residues."""
-    if "faults" in options:
-        return shown_answer(content, text, files[options["faults"]], steps)
-    return exec_answer(content, text, steps) or shown_answer(content, text, steps=steps)
+    """By the machine over plain integers; with faults, with a schedule or a journal, and where integers leave the range,
+    by the one on residues."""
+    faults, schedule = (files[options[name]] if name in options else b"" for name in ("faults", "schedule"))
+    is_plain = not options.keys() & {"faults", "schedule", "journal"}
+    plain = exec_answer(content, text, steps) if is_plain else None
+    return plain or shown_answer(content, text, faults, steps, schedule, "journal" in options)
 
 
 def asked(arguments):

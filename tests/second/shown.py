@@ -1,9 +1,12 @@
-"""The machine on residues, whose control goes by the integers that are shown, and what `exec` writes with faults."""
+"""The machine on residues, whose control goes by the integers that are shown, and what `exec` writes with faults, with a
+schedule and with a journal."""
 from second.faults import BadFaults, faults_of
 from second.lanes import Damage, Lanes, word
 from second.machine import DEFAULT_STEPS, KINDS, MOST_HELD, STATUS, Trap, numbers_of
 from second.objects import CHANNELS, Refused, read
 from second.plans import divide, scale
+from second.schedules import BadTurn, schedule_of
+from second.turns import Kept, journal, journal_text
 
 
 class ShownMachine:
@@ -123,18 +126,26 @@ def text_of(prints, ending, corrected):
     return "".join(f"{line}\n" for line in lines).encode(), (STATUS | {"damage": 9})[ending.split()[0]]
 
 
-def shown_answer(content, given, faults=b"", steps=DEFAULT_STEPS):
-    """What `exec` writes of an object, an input and a text of faults, and its status."""
+def shown_answer(content, given, faults=b"", steps=DEFAULT_STEPS, schedule=b"", has_journal=False):
+    """What `exec` writes of an object, an input, a text of faults and one of a schedule, and its status."""
     try:
         program = read(content)
+        channels = CHANNELS[program.set]
         numbers = numbers_of(given)
-        book = faults_of(faults, CHANNELS[program.set])
+        book = faults_of(faults, channels)
+        turns = schedule_of(schedule, channels)
     except Refused as refused:
         return f"refused object {refused.args[0]}\n".encode(), 11
     except ValueError as place:
         return f"refused input {place}\n".encode(), 6
     except BadFaults as line:
         return f"refused faults {line}\n".encode(), 7
+    except BadTurn as turn:
+        return f"refused schedule {turn}\n".encode(), 7
     machine = ShownMachine(program, numbers, book)
+    machine.lanes = Kept(program.set, program.words, book)
     ending = machine.run(steps)
-    return text_of((it for _, it in machine.prints), ending, machine.lanes.corrected)
+    text, status = text_of((it for _, it in machine.prints), ending, machine.lanes.corrected)
+    if has_journal:
+        text += journal_text(journal(machine.lanes.operations, turns, channels))
+    return text, status

@@ -1,5 +1,11 @@
 pub use Rattle.fault_book.specs.Book
+pub use Rattle.fault_book.specs.Turns
 pub use Rattle.channel_lane.specs.Meaning
 pub use Rattle.channel_lane.specs.Lane
 pub use Rattle.lane_bank.specs.Bank
 pub mod Rack
+pub mod Kept
+pub mod Queues
+pub mod Counts
+pub mod Channels
+pub mod Moments

@@ -12,3 +12,5 @@ mod channels;
 mod faults;
 #[cfg(test)]
 mod racks;
+#[cfg(test)]
+mod schedules;

@@ -251,6 +251,16 @@ fn objects_run_or_are_refused(rt: HostRuntime) -> Result<(), Fail> {
             Status::PlanRefused,
             "refused faults 1\n",
         ),
+        (
+            &["exec", "a.src", "-", "--schedule=a.src"],
+            Status::PlanRefused,
+            "refused schedule 1\n",
+        ),
+        (
+            &["exec", "a.src", "-", "--journal"],
+            Status::Ok,
+            "42\nend\ncorrected 0 0 0 0 0\nj 0 0 3\nj 1 0 12\nj 2 0 10\nj 3 0 8\nj 4 0 4\nj 0 1 3\nj 1 1 12\nj 2 1 10\nj 3 1 8\nj 4 1 4\n",
+        ),
     ] {
         let (status, written) = done(rt.alloc(), words, &bytes, &NONE)?;
         assert_eq!(rt; status, ended);

@@ -1,5 +1,5 @@
 -- Worked rows: words, and the jobs that they ask for.
-use Rattle.std.specs.Prelude.{◌≡◌, refl, ℕ, pos, negsuc, [], ◌∷◌, Option, Some, None, codes, map, replicate}
+use Rattle.std.specs.Prelude.{◌≡◌, refl, ℕ, pos, negsuc, Bool, true, false, [], ◌∷◌, Option, Some, None, codes, map, replicate}
 use Rattle.moduli_sets.specs.declared.set_name.SetName.TheVariants.{Pocket, Desk, Hall}
 use Rattle.word_readers.specs.declared.operands.FileWord.{FileWord}
 use Rattle.word_readers.specs.Operands.{whole_word}
@@ -14,7 +14,7 @@ run_row = refl
 exec_rows : map job_of_words (
     (codes "exec" ∷ codes "a.rnm" ∷ codes "-" ∷ [])
     ∷ (codes "exec" ∷ codes "a.rnm" ∷ codes "--steps=7" ∷ codes "b" ∷ [])
-    ∷ []) ≡ Some (Exec (whole_word 1) None 1000000 None) ∷ Some (Exec (whole_word 1) (Some (whole_word 3)) 7 None) ∷ []
+    ∷ []) ≡ Some (Exec (whole_word 1) None 1000000 None None false) ∷ Some (Exec (whole_word 1) (Some (whole_word 3)) 7 None None false) ∷ []
 exec_rows = refl
 
 -- what stands in word n after `--faults=`
@@ -26,16 +26,16 @@ faults_rows : map job_of_words (
     (codes "exec" ∷ codes "--faults=f" ∷ codes "a.rnm" ∷ codes "b" ∷ [])
     ∷ (codes "exec" ∷ codes "a.rnm" ∷ codes "--faults=f" ∷ codes "b" ∷ [])
     ∷ (codes "exec" ∷ codes "a.rnm" ∷ codes "b" ∷ codes "--faults=f" ∷ [])
-    ∷ []) ≡ Some (Exec (whole_word 2) (Some (whole_word 3)) 1000000 (faults_in 1))
-    ∷ Some (Exec (whole_word 1) (Some (whole_word 3)) 1000000 (faults_in 2))
-    ∷ Some (Exec (whole_word 1) (Some (whole_word 2)) 1000000 (faults_in 3)) ∷ []
+    ∷ []) ≡ Some (Exec (whole_word 2) (Some (whole_word 3)) 1000000 (faults_in 1) None false)
+    ∷ Some (Exec (whole_word 1) (Some (whole_word 3)) 1000000 (faults_in 2) None false)
+    ∷ Some (Exec (whole_word 1) (Some (whole_word 2)) 1000000 (faults_in 3) None false) ∷ []
 faults_rows = refl
 
 -- and beside a limit
 faults_and_steps : map job_of_words (
     (codes "exec" ∷ codes "--steps=7" ∷ codes "--faults=f" ∷ codes "a.rnm" ∷ codes "-" ∷ [])
     ∷ (codes "exec" ∷ codes "--faults=f" ∷ codes "a.rnm" ∷ codes "-" ∷ codes "--steps=7" ∷ [])
-    ∷ []) ≡ Some (Exec (whole_word 3) None 7 (faults_in 2)) ∷ Some (Exec (whole_word 2) None 7 (faults_in 1)) ∷ []
+    ∷ []) ≡ Some (Exec (whole_word 3) None 7 (faults_in 2) None false) ∷ Some (Exec (whole_word 2) None 7 (faults_in 1) None false) ∷ []
 faults_and_steps = refl
 
 -- a file of faults whose name begins like an option, or holds `=`
@@ -43,8 +43,36 @@ faults_names : map job_of_words (
     (codes "exec" ∷ codes "a.rnm" ∷ codes "-" ∷ codes "--faults=--f" ∷ [])
     ∷ (codes "exec" ∷ codes "a.rnm" ∷ codes "-" ∷ codes "--faults=f=g" ∷ [])
     ∷ (codes "exec" ∷ codes "a.rnm" ∷ codes "-" ∷ codes "--faults==" ∷ [])
-    ∷ []) ≡ replicate 3 (Some (Exec (whole_word 1) None 1000000 (faults_in 3)))
+    ∷ []) ≡ replicate 3 (Some (Exec (whole_word 1) None 1000000 (faults_in 3) None false))
 faults_names = refl
+
+-- what stands in word n after `--schedule=`
+abbrev schedule_in : ℕ → Option FileWord
+schedule_in n = Some (record { word = n; skip = 11 })
+
+-- the journal before, between and after the operands; a schedule, beside it and beside faults
+schedule_rows : map job_of_words (
+    (codes "exec" ∷ codes "--journal" ∷ codes "a.rnm" ∷ codes "b" ∷ [])
+    ∷ (codes "exec" ∷ codes "a.rnm" ∷ codes "--journal" ∷ codes "b" ∷ [])
+    ∷ (codes "exec" ∷ codes "a.rnm" ∷ codes "-" ∷ codes "--schedule=s" ∷ [])
+    ∷ (codes "exec" ∷ codes "--schedule=s" ∷ codes "--faults=f" ∷ codes "a.rnm" ∷ codes "-" ∷ codes "--journal" ∷ [])
+    ∷ []) ≡ Some (Exec (whole_word 2) (Some (whole_word 3)) 1000000 None None true)
+    ∷ Some (Exec (whole_word 1) (Some (whole_word 3)) 1000000 None None true)
+    ∷ Some (Exec (whole_word 1) None 1000000 None (schedule_in 3) false)
+    ∷ Some (Exec (whole_word 3) None 1000000 (faults_in 2) (schedule_in 1) true) ∷ []
+schedule_rows = refl
+
+-- a schedule twice, without a name, and from no file; a journal twice, with a value, and with a longer name
+schedule_usage : map job_of_words (
+    (codes "exec" ∷ codes "a.rnm" ∷ codes "-" ∷ codes "--schedule=s" ∷ codes "--schedule=s" ∷ [])
+    ∷ (codes "exec" ∷ codes "a.rnm" ∷ codes "-" ∷ codes "--schedule=" ∷ [])
+    ∷ (codes "exec" ∷ codes "a.rnm" ∷ codes "-" ∷ codes "--schedule=-" ∷ [])
+    ∷ (codes "exec" ∷ codes "a.rnm" ∷ codes "-" ∷ codes "--schedule" ∷ codes "s" ∷ [])
+    ∷ (codes "exec" ∷ codes "a.rnm" ∷ codes "-" ∷ codes "--journal" ∷ codes "--journal" ∷ [])
+    ∷ (codes "exec" ∷ codes "a.rnm" ∷ codes "-" ∷ codes "--journal=yes" ∷ [])
+    ∷ (codes "exec" ∷ codes "a.rnm" ∷ codes "-" ∷ codes "--journals" ∷ [])
+    ∷ []) ≡ replicate 7 None
+schedule_usage = refl
 
 -- one file each
 asm_row : job_of_words (codes "asm" ∷ codes "a.txt" ∷ []) ≡ Some (Asm (whole_word 1))

@@ -1,5 +1,5 @@
 -- The job that a list of words asks for. A word is its bytes; word 0 is the command.
-use Rattle.std.specs.Prelude.{ℕ, ◌≤◌, ◌&&◌, ⊤, List, [], ◌∷◌, Option, None, IfSome, option_and_then, codes, if◌then◌else◌}
+use Rattle.std.specs.Prelude.{ℕ, ◌≤◌, Bool, ◌&&◌, ⊤, List, [], ◌∷◌, Option, None, IfSome, option_and_then, codes, if◌then◌else◌}
 use Rattle.std.specs.Option.{option_map}
 use Rattle.std.specs.Str.{bytes_eq}
 use Rattle.number_theory.specs.Residue.{AreResidues}
@@ -7,11 +7,11 @@ use Rattle.moduli_sets.specs.declared.set_name.SetName.{SetName}
 use Rattle.moduli_sets.specs.declared.set_name.SetName.TheVariants.{Desk}
 use Rattle.moduli_sets.specs.Set.{IsInRange}
 use Rattle.moduli_sets.specs.Name.{set_named, set_of_name}
-use Rattle.word_readers.specs.declared.options.OptionKind.TheVariants.{Value}
+use Rattle.word_readers.specs.declared.options.OptionKind.TheVariants.{Flag, Value}
 use Rattle.word_readers.specs.Numbers.{integer_in_range, residues_in, steps_in}
 use Rattle.word_readers.specs.declared.operands.FileWord.{FileWord}
 use Rattle.word_readers.specs.Operands.{IsFileWord, file_and_input, file_option, named_file, operands_of}
-use Rattle.word_readers.specs.Options.{OptionTable, has_only_options, option_of, values_of}
+use Rattle.word_readers.specs.Options.{OptionTable, flag_of, has_only_options, option_of, values_of}
 use Rattle.command_words.specs.declared.job.Job.{Job}
 use Rattle.command_words.specs.declared.job.Job.TheVariants.{Run, Exec, Asm, List as Listing, Decode, Encode, Mean, Set}
 
@@ -60,18 +60,28 @@ mean_job words =
 
 -- the options of `exec`
 abbrev pub exec_options : OptionTable
-exec_options = (codes "--steps", Value) ∷ ((codes "--faults", Value) ∷ [])
+exec_options =
+    (codes "--steps", Value) ∷ ((codes "--faults", Value) ∷ ((codes "--schedule", Value) ∷ ((codes "--journal", Flag) ∷ [])))
 
 -- the file of faults that the option names, where it is there
 abbrev pub faults_option : List (List ℕ) → Option (Option FileWord)
 faults_option words = file_option (codes "--faults") words
 
+-- the file of turns that the option names, where it is there
+abbrev pub schedule_option : List (List ℕ) → Option (Option FileWord)
+schedule_option words = file_option (codes "--schedule") words
+
+-- whether the journal is asked for
+abbrev pub journal_option : List (List ℕ) → Option Bool
+journal_option words = flag_of (codes "--journal") words
+
 -- `exec OBJECT INPUT`, with its options in any order
 abbrev pub exec_job : List (List ℕ) → Option Job
 exec_job words =
     if has_only_options exec_options words
-    then option_and_then (λ files. option_and_then (λ steps. option_map (Exec files.0 files.1 steps)
-    (faults_option words)) (steps_option words)) (file_and_input (operands_of words))
+    then option_and_then (λ files. option_and_then (λ steps. option_and_then (λ faults. option_and_then (λ schedule.
+    option_map (Exec files.0 files.1 steps faults schedule)
+    (journal_option words)) (schedule_option words)) (faults_option words)) (steps_option words)) (file_and_input (operands_of words))
     else None
 
 -- the file that the one word after the command names
@@ -107,8 +117,9 @@ job_of_words (command ∷ operands) = job_of_command command (command ∷ operan
 -- set, below its modulus; an integer is in the range of its set; an object's instructions are at most 1,000,000,000
 abbrev pub HoldsOf : List (List ℕ) → Job → Type 0
 HoldsOf words (Run source) = IsFileWord words source
-HoldsOf words (Exec object input steps faults) =
+HoldsOf words (Exec object input steps faults schedule journal) =
     IsFileWord words object × IfSome input (IsFileWord words) × (steps ≤ 1000000000) × IfSome faults (IsFileWord words)
+    × IfSome schedule (IsFileWord words)
 HoldsOf words (Asm text) = IsFileWord words text
 HoldsOf words (Listing object) = IsFileWord words object
 HoldsOf words (Decode set residues) = AreResidues (set_of_name set).moduli residues

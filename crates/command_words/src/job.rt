@@ -8,12 +8,15 @@ pub enum Job {
     Run {
         source: FileWord,
     },
-    /// Run an object on an input, or on none, in so many instructions at most, with the faults of a file, or with none.
+    /// Run an object on an input, or on none, in so many instructions at most, with the faults of a file and the turns of
+    /// another, or with none; and print its journal, or don't.
     Exec {
         object: FileWord,
         input: Option<FileWord>,
         steps: u64,
         faults: Option<FileWord>,
+        schedule: Option<FileWord>,
+        journal: bool,
     },
     /// Print the object that an assembly text spells.
     Asm {

@@ -5,7 +5,7 @@ ghost use Rattle.command_words.specs.Words.{HoldsOf, asm_job, decode_job, encode
 use crate::Job;
 use moduli_sets::{Moduli, SetName};
 use word_readers::{
-    FileWord, OptionKind, OptionRow, file_and_input, file_option, has_only_options,
+    FileWord, OptionKind, OptionRow, file_and_input, file_option, has_flag, has_only_options,
     integer_in_range, named_file, option_value, residues_in, steps_in,
 };
 
@@ -13,9 +13,11 @@ use word_readers::{
 const MEAN_OPTIONS: [OptionRow; 2] = [("--set", OptionKind::Value), ("--steps", OptionKind::Value)];
 
 /// The options of `exec`.
-const EXEC_OPTIONS: [OptionRow; 2] = [
+const EXEC_OPTIONS: [OptionRow; 4] = [
     ("--steps", OptionKind::Value),
     ("--faults", OptionKind::Value),
+    ("--schedule", OptionKind::Value),
+    ("--journal", OptionKind::Flag),
 ];
 
 /// The limit of steps where the words say none.
@@ -55,7 +57,8 @@ fn run_job(words: &[String]) -> Option<Job>
     Some(Job::Run { source })
 }
 
-/// `exec OBJECT INPUT`, with the options `--steps=N` and `--faults=FILE` before, between or after them.
+/// `exec OBJECT INPUT`, with the options `--steps=N`, `--faults=FILE`, `--schedule=FILE` and `--journal` before, between or
+/// after them.
 fn exec_job(words: &[String]) -> Option<Job>
     ensures value { result ≡ exec_job (map string_bytes words.now) }
     ensures holds { IfSome result (HoldsOf (map string_bytes words.now)) }
@@ -66,11 +69,15 @@ fn exec_job(words: &[String]) -> Option<Job>
     let (object, input) = file_and_input(words)?;
     let steps = steps_option(words)?;
     let faults = file_option(words, "--faults")?;
+    let schedule = file_option(words, "--schedule")?;
+    let journal = has_flag(words, "--journal")?;
     Some(Job::Exec {
         object,
         input,
         steps,
         faults,
+        schedule,
+        journal,
     })
 }
 

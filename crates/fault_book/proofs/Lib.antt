@@ -4,3 +4,5 @@ mod EntryLemmas
 mod FaultTextRows
 mod NumberWords
 mod ReadLemmas
+mod ScheduleLemmas
+mod ScheduleTextRows

@@ -4,3 +4,5 @@ pub use Rattle.plain_text.specs.Words
 pub mod Book
 pub mod FaultText
 pub mod Invariant
+pub mod ScheduleText
+pub mod Turns

@@ -15,7 +15,7 @@ use Rattle.job_endings.specs.declared.assembly_kind.AssemblyKind.TheVariants.{Ba
 use Rattle.job_endings.specs.declared.object_kind.ObjectKind.{ObjectKind}
 use Rattle.job_endings.specs.declared.object_kind.ObjectKind.TheVariants.{Short, Magic, Version, Set, Long, Record, Unsound}
 use Rattle.job_endings.specs.declared.refusal.Refusal.{Refusal}
-use Rattle.job_endings.specs.declared.refusal.Refusal.TheVariants.{Usage, Unread, TooLong, Source, Object, Assembly, Input, Faults}
+use Rattle.job_endings.specs.declared.refusal.Refusal.TheVariants.{Usage, Unread, TooLong, Source, Object, Assembly, Input, Faults, Schedule}
 use Rattle.job_endings.specs.declared.refusal.Stop.{Stop}
 use Rattle.job_endings.specs.declared.refusal.Stop.TheVariants.{Refused, NoMemory}
 
@@ -92,6 +92,7 @@ refusal_line words (Object kind) = line (object_line kind)
 refusal_line words (Assembly kind) = line (assembly_line kind)
 refusal_line words (Input place) = line (codes "refused input " ++ decimal place)
 refusal_line words (Faults n) = line (codes "refused faults " ++ decimal n)
+refusal_line words (Schedule n) = line (codes "refused schedule " ++ decimal n)
 
 abbrev pub refusal_status : Refusal → Status
 refusal_status Usage = status.Usage
@@ -102,6 +103,7 @@ refusal_status (Object kind) = status.ObjectRefused
 refusal_status (Assembly kind) = status.ObjectRefused
 refusal_status (Input place) = status.InputRefused
 refusal_status (Faults n) = status.PlanRefused
+refusal_status (Schedule n) = status.PlanRefused
 
 -- whether the line of a refusal has the name of a file
 abbrev pub names_file : Refusal → Bool
@@ -113,6 +115,7 @@ names_file (Object kind) = false
 names_file (Assembly kind) = false
 names_file (Input place) = false
 names_file (Faults n) = false
+names_file (Schedule n) = false
 
 -- the file that a refusal names is named by the words
 abbrev pub IsOfWords : List (List ℕ) → Refusal → Type 0
@@ -124,6 +127,7 @@ IsOfWords words (Object kind) = Unit {0}
 IsOfWords words (Assembly kind) = Unit {0}
 IsOfWords words (Input place) = Unit {0}
 IsOfWords words (Faults n) = Unit {0}
+IsOfWords words (Schedule n) = Unit {0}
 
 abbrev pub IsStopOfWords : List (List ℕ) → Stop → Type 0
 IsStopOfWords words (Refused refusal) = IsOfWords words refusal

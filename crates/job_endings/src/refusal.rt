@@ -34,6 +34,8 @@ pub enum Refusal {
     Input(usize),
     /// The first line of the faults that breaks a rule has this number, counted from 1.
     Faults(u32),
+    /// The first word of the schedule that is no turn has this number, counted from 1.
+    Schedule(u32),
 }
 
 /// Why a job stops before anything is put.
@@ -82,6 +84,7 @@ pub fn put_refusal<K: Sink>(
         Refusal::Assembly(kind) => put_lines(sink, &[assembly_line(kind)], Status::ObjectRefused),
         Refusal::Input(place) => put_lines(sink, &[input_line(place)], Status::InputRefused),
         Refusal::Faults(n) => put_lines(sink, &[faults_line(n)], Status::PlanRefused),
+        Refusal::Schedule(n) => put_lines(sink, &[schedule_line(n)], Status::PlanRefused),
     }
 }
 
@@ -150,4 +153,11 @@ fn faults_line(n: u32) -> Line
     ensures { result ≡ line (codes "refused faults " ++ decimal n) }
 {
     Line::of(b"refused faults ").count(u64::from(n)).end()
+}
+
+/// The line `refused schedule TURN`.
+fn schedule_line(n: u32) -> Line
+    ensures { result ≡ line (codes "refused schedule " ++ decimal n) }
+{
+    Line::of(b"refused schedule ").count(u64::from(n)).end()
 }

@@ -1,5 +1,5 @@
 -- From what a machine leaves to what is printed of its run.
-use Rattle.std.proofs.Common.{◌≡◌, Bool, cond, count_by, false, ℕ, zero, suc, ◌+◌, ◌<◌, ◌≤◌, ℤ, List, [], ◌∷◌, ◌++◌, map, length, take, replicate, get_or, None, Some, refl, sym, ap, ◌∙◌, subst, arith}
+use Rattle.std.proofs.Common.{◌≡◌, Bool, cond, count_by, false, ℕ, zero, suc, ◌+◌, ◌<◌, ◌≤◌, ℤ, List, [], ◌∷◌, ◌++◌, map, length, take, replicate, get_or, None, Some, inl, inr, refl, sym, ap, ◌∙◌, subst, arith}
 use Rattle.std.specs.List.{range_with_len}
 use Rattle.std.specs.Fmt.{signed_decimal}
 use Rattle.std.proofs.lemmas.List.{append_assoc, ext_get_or, get_or-replicate, length-replicate, map-append, take_all}
@@ -33,10 +33,15 @@ use Rattle.residue_machine.specs.Machine.{MachineState, CameOut, FailedAfter, Is
 use Rattle.job_endings.specs.declared.status.Status.{Status}
 use Rattle.job_endings.specs.declared.status.Status.TheVariants.{Unwritten}
 use Rattle.job_endings.specs.declared.ending.Ending.{Ending}
+use Rattle.job_endings.specs.declared.ending.Ending.TheVariants.{End, Trap, Damage, Spent}
 use Rattle.job_endings.specs.EndingLines.{corrected_line, ending_line, ending_status}
 use Rattle.job_endings.specs.Endings.{EndsPut}
 use Rattle.job_endings.proofs.EndingLemmas.{puts_after, fails_before}
-use Rattle.object_runs.specs.RunText.{TellsIntegers, counts_of, run_lines, run_status, told_answer, told_ending, told_of_integers, trace_of}
+use Rattle.fault_book.specs.declared.schedule.Turn.{Turn}
+use Rattle.channel_scheduler.specs.declared.entry.Entry.{Entry}
+use Rattle.channel_scheduler.specs.Counts.{HasPerformed, after_turns}
+use Rattle.channel_scheduler.specs.Moments.{IsFirst, entry_of}
+use Rattle.object_runs.specs.RunText.{AreEntries, PutsRun, TellsIntegers, counts_of, journal_line, run_lines, run_status, told_answer, told_ending, told_of_integers, trace_of}
 
 -- ---- endings
 -- an answer that is told has the ending of the trace
@@ -125,6 +130,31 @@ module _ (decode : Decoding) (book : Book) (set : ModuliSet) (code : List Instr)
 lines-append : (xs ys : List ℤ) → print_lines (xs ++ ys) ≡ print_lines xs ++ print_lines ys
 lines-append xs ys = map-append (λ z. line (signed_decimal z)) xs ys
 
+-- no ending has the status of a put that failed
+written : (e : Ending) → ending_status e ≡ Unwritten → ⊥
+written End h = absurd (cc)
+written (Trap kind at) h = absurd (cc)
+written (Damage t column) h = absurd (cc)
+written Spent h = absurd (cc)
+
+module _ {K : Type 0} (puts : K → List ℕ → K → Type 0) (state : K → SinkState) (old : K) (first more : List (List ℕ)) (e : Ending) where
+  -- where a put of the first lines failed, none of the others is put
+  pub fails_first : (new : K) → EndsPut puts state old first (ending_status e) Unwritten new → EndsPut puts state old (first ++ more) (ending_status e) Unwritten new
+  fails_first new ends =
+      elim ends [
+        | inl (is, wrote) ↦ absurd (written e (sym is))
+        | inr (is, failed) ↦ fails_before puts state old first more (ending_status e) new failed
+      ]
+
+  -- and else the others follow
+  pub follows : (mid : K) (status result : Status) (new : K) → (status ≡ Unwritten → ⊥) → EndsPut puts state old first (ending_status e) status mid
+      → EndsPut puts state mid more status result new → EndsPut puts state old (first ++ more) (ending_status e) result new
+  follows mid status result new written ends next =
+      elim ends [
+        | inl (is, wrote) ↦ puts_after puts state old mid first more (ending_status e) result new wrote (subst (λ (s : Status). EndsPut puts state mid more s result new) is next)
+        | inr (is, failed) ↦ absurd (written is)
+      ]
+
 module _ {R D K : Type 0} (racks : RackGhosts R) (After : R → List LaneState → List MicroOp → Type 0) (puts : K → List ℕ → K → Type 0) (state : K → SinkState)
     (set : ModuliSet) (code : List Instr) (words input : List ℤ) (rack : R) (decoder : D) (steps : ℕ) (before : K) where
   abbrev loaded : MachineState R D
@@ -178,6 +208,15 @@ module _ {R D K : Type 0} (racks : RackGhosts R) (After : R → List LaneState �
       subst (λ (e : Ending). EndsPut puts state mid (ending_line e ∷ (corrected_line (counts_of set trace) ∷ [])) (ending_status e) result after) last by_counts in
       from_start lanes result after (puts_after puts state before mid (print_lines (prints_of trace)) closing (run_status trace) result after came.prints by_ending)
 
+  -- the rack has come by the operations of the run, where no put of a print failed
+  pub has_come : racks.lanes_of rack ≡ lanes_at_start set 0 words → racks.IsUnderWay rack (lanes_at_start set 0 words) [] → (answer : MachineEnding) (new : MachineState R D) (mid : K) (ending : Ending)
+      → told_answer answer ≡ Some ending → RunsOut racks radius None After puts state steps loaded before answer new mid
+      → After new.channels.rack (lanes_at_start set 0 words) (operations_of (trace_of (racks.book_of rack) set code words steps input))
+  has_come lanes made answer new mid ending told runs =
+      let come = (came_of answer new mid ending told runs).run.channels.run (lanes_at_start set 0 words) [] made in
+      let by : List LaneState → Trace = run_shown (nearest (radius set) None set) (racks.book_of rack) set code steps (control_at_start input) in
+      subst (λ (ls : List LaneState). After new.channels.rack (lanes_at_start set 0 words) (operations_of (by ls))) lanes come
+
   failed_of : (answer : MachineEnding) (new : MachineState R D) (after : K) → told_answer answer ≡ None
       → RunsOut racks radius None After puts state steps loaded before answer new after → (k : ℕ) × FailedAfter racks radius None After puts state steps k loaded before new after
   failed_of machine.Halt new after told h = cc
@@ -203,3 +242,46 @@ module _ {R D K : Type 0} (racks : RackGhosts R) (After : R → List LaneState �
       from_start lanes Unwritten after
       (subst (λ (ls : List (List ℕ)). EndsPut puts state before ls (run_status trace) Unwritten after) whole
       (fails_before puts state before front behind (run_status trace) after (length front, all)))
+
+  -- whatever came of the run, the rack has the plan and the book that it had
+  pub same_rack : (answer : MachineEnding) (new : MachineState R D) (after : K) → RunsOut racks radius None After puts state steps loaded before answer new after
+      → (racks.plan_of new.channels.rack ≡ racks.plan_of rack) × (racks.book_of new.channels.rack ≡ racks.book_of rack)
+  same_rack machine.Halt new after h = (h.run.channels.plan, h.run.channels.book)
+  same_rack (machine.Trap kind at) new after h = (h.run.channels.plan, h.run.channels.book)
+  same_rack (machine.Damage t column) new after h = (h.run.channels.plan, h.run.channels.book)
+  same_rack machine.Spent new after h = (h.run.channels.plan, h.run.channels.book)
+  same_rack machine.SinkFailed new after (k, h) = (h.run.channels.plan, h.run.channels.book)
+
+-- ---- the journal
+module _ {K : Type 0} (puts : K → List ℕ → K → Type 0) (state : K → SinkState) (plan : List Turn × ℕ) (book : Book) (set : ModuliSet) (words : List ℤ) (trace : Trace) (old : K) where
+  abbrev start : List LaneState
+  start = lanes_at_start set 0 words
+
+  -- a put of the run failed before its journal
+  pub cut : (n : ℕ) × IsFirst (HasPerformed (operations_of trace)) plan.0 (length start) (operations_of trace) n → (new : K)
+      → EndsPut puts state old (run_lines set trace) (run_status trace) Unwritten new → PutsRun puts state plan book set words trace old Unwritten new
+  cut (n, first) new ends =
+      let entries = take plan.1 (map (entry_of book start (operations_of trace)) (after_turns (operations_of trace) plan.0 (length start) n).journal) in
+      record {
+        entries = entries;
+        are = (n, first, refl);
+        put = fails_first puts state old (run_lines set trace) (map journal_line entries) (told_ending (ending_of 0 trace)) new ends;
+      }
+
+  -- the journal of the rack is put after the run
+  pub whole : (entries : List Entry) → AreEntries plan book set words trace entries → (mid : K) (status result : Status) (new : K) → (status ≡ Unwritten → ⊥)
+      → EndsPut puts state old (run_lines set trace) (run_status trace) status mid → EndsPut puts state mid (map journal_line entries) status result new
+      → PutsRun puts state plan book set words trace old result new
+  whole entries are mid status result new written ends next = record {
+    entries = entries;
+    are = are;
+    put = follows puts state old (run_lines set trace) (map journal_line entries) (told_ending (ending_of 0 trace)) mid status result new written ends next;
+  }
+
+-- what is put by the plan and the book of a rack is put by those that it was made with
+pub same_run : {K : Type 0} (puts : K → List ℕ → K → Type 0) (state : K → SinkState) (set : ModuliSet) (words : List ℤ) (by : Book → Trace) (old : K) (result : Status) (new : K)
+    (plan made : List Turn × ℕ) (book given : Book) → plan ≡ made → book ≡ given → PutsRun puts state plan book set words (by book) old result new
+    → PutsRun puts state made given set words (by given) old result new
+same_run puts state set words by old result new plan made book given same_plan same_book h =
+    subst (λ (b : Book). PutsRun puts state made b set words (by b) old result new) same_book
+    (subst (λ (p : List Turn × ℕ). PutsRun puts state p book set words (by book) old result new) same_plan h)

@@ -10,7 +10,7 @@ use Rattle.command_words.specs.Words.{job_of_words}
 use Rattle.job_endings.specs.declared.status.Status.{Status}
 use Rattle.job_endings.specs.declared.status.Status.TheVariants as status
 use Rattle.job_endings.specs.declared.refusal.Refusal.{Refusal}
-use Rattle.job_endings.specs.declared.refusal.Refusal.TheVariants.{Usage, Unread, TooLong, Source, Object, Assembly, Input, Faults}
+use Rattle.job_endings.specs.declared.refusal.Refusal.TheVariants.{Usage, Unread, TooLong, Source, Object, Assembly, Input, Faults, Schedule}
 use Rattle.job_endings.specs.declared.refusal.Stop.{Stop}
 use Rattle.job_endings.specs.declared.refusal.Stop.TheVariants.{Refused, NoMemory}
 use Rattle.job_endings.specs.Refusals.{refusal_status}
@@ -48,6 +48,7 @@ own_is_final (refused (Object kind)) h = refl
 own_is_final (refused (Assembly kind)) h = refl
 own_is_final (refused (Input place)) h = refl
 own_is_final (refused (Faults n)) h = refl
+own_is_final (refused (Schedule n)) h = refl
 
 refusal_is_final : (refusal : Refusal) → is_final (refusal_status refusal) ≡ true
 refusal_is_final Usage = refl
@@ -58,6 +59,7 @@ refusal_is_final (Object kind) = refl
 refusal_is_final (Assembly kind) = refl
 refusal_is_final (Input place) = refl
 refusal_is_final (Faults n) = refl
+refusal_is_final (Schedule n) = refl
 
 job_answer_is_final : (job : Option Job) (given : Given) (answer : Answer) → IsJobAnswer job given answer → is_final (answer_status answer) ≡ true
 job_answer_is_final None given answer h = ap (λ a. is_final (answer_status a)) h
@@ -77,6 +79,7 @@ own_is_read (refused (Object kind)) h e = cc
 own_is_read (refused (Assembly kind)) h e = cc
 own_is_read (refused (Input place)) h e = cc
 own_is_read (refused (Faults n)) h e = cc
+own_is_read (refused (Schedule n)) h e = cc
 
 unread_names : (refusal : Refusal) → refusal_status refusal ≡ status.Unread → (file : FileWord) × (refusal ≡ Unread file)
 unread_names Usage e = absurd (cc)
@@ -87,6 +90,7 @@ unread_names (Object kind) e = absurd (cc)
 unread_names (Assembly kind) e = absurd (cc)
 unread_names (Input place) e = absurd (cc)
 unread_names (Faults n) e = absurd (cc)
+unread_names (Schedule n) e = absurd (cc)
 
 unread_given : (job : Option Job) (given : Given) (answer : Answer) → IsJobAnswer job given answer → answer_status answer ≡ status.Unread → (file : FileWord) × (given ≡ Err (Refused (Unread file)))
 unread_given None given answer h e = absurd (let usage : status.Usage ≡ status.Unread = sym (ap answer_status h) ∙ e in cc)

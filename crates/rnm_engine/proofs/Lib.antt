@@ -2,3 +2,4 @@ mod AnswerLemmas
 mod ExecLemmas
 mod MeanLemmas
 mod ObjectLemmas
+mod ScheduleLemmas

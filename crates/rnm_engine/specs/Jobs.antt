@@ -1,5 +1,5 @@
 -- What a job does once its files are there: a row a command in each table.
-use Rattle.std.specs.Prelude.{◌≡◌, ◌≢◌, ℕ, ℤ, ◌⊎◌, Bool, true, false, List, [], ◌∷◌, ◌++◌, length, Option, Some, None, Result, Ok, Err, slice_index_or, codes, ⊤}
+use Rattle.std.specs.Prelude.{◌≡◌, ◌≢◌, ℕ, ℤ, ◌⊎◌, Bool, true, false, List, [], ◌∷◌, ◌++◌, map, length, Option, Some, None, Result, Ok, Err, slice_index_or, codes, ⊤}
 use Rattle.std.specs.FinMap.{from_entries}
 use Rattle.number_text.specs.Lines.{line, print_lines}
 use Rattle.outside.specs.Sink.{SinkState}
@@ -23,7 +23,7 @@ use Rattle.redundant_decoder.specs.Verdict.{IsVerdict}
 use Rattle.job_endings.specs.declared.status.Status.{Status}
 use Rattle.job_endings.specs.declared.status.Status.TheVariants as status
 use Rattle.job_endings.specs.declared.refusal.Refusal.{Refusal}
-use Rattle.job_endings.specs.declared.refusal.Refusal.TheVariants.{Source, Object, Assembly, Input, Faults}
+use Rattle.job_endings.specs.declared.refusal.Refusal.TheVariants.{Source, Object, Assembly, Input, Faults, Schedule}
 use Rattle.job_endings.specs.declared.assembly_kind.AssemblyKind.TheVariants as assembly
 use Rattle.job_endings.specs.declared.object_kind.ObjectKind.TheVariants as kind
 use Rattle.job_endings.specs.declared.refusal.Stop.{Stop}
@@ -41,12 +41,17 @@ use Rattle.fault_book.specs.Book.{Book}
 use Rattle.fault_book.specs.FaultText.{book_faults, entries_of}
 use Rattle.fault_book.specs.declared.reading.BookFault.{BookFault}
 use Rattle.fault_book.specs.declared.reading.BookFault.TheVariants as book
+use Rattle.fault_book.specs.declared.schedule.ScheduleFault.{ScheduleFault}
+use Rattle.fault_book.specs.declared.schedule.ScheduleFault.TheVariants as schedule
+use Rattle.fault_book.specs.declared.schedule.Turn.{Turn}
+use Rattle.fault_book.specs.ScheduleText.{AreTurns, IsFirstOther as IsFirstNoTurn}
+use Rattle.channel_scheduler.specs.declared.entry.Entry.{Entry}
 use Rattle.machine_table.specs.Faults.{object_fault}
 use Rattle.assembler.specs.declared.fault.AsmFault.{AsmFault}
 use Rattle.assembler.specs.declared.fault.AsmFault.TheVariants as asm
 use Rattle.assembler.specs.Assembly.{IsRefusal, Spells}
 use Rattle.assembler.specs.Listing.{listing}
-use Rattle.object_runs.specs.RunText.{run_lines, run_status, trace_of}
+use Rattle.object_runs.specs.RunText.{AreEntries, entries_kept, journal_line, run_lines, run_status, trace_of}
 use Rattle.set_commands.specs.Decode.{verdict_lines, verdict_status}
 use Rattle.set_commands.specs.Sets.{encode_lines, set_lines}
 
@@ -77,6 +82,7 @@ is_own (refused (Object kind)) = true
 is_own (refused (Assembly kind)) = true
 is_own (refused (Input place)) = true
 is_own (refused (Faults n)) = true
+is_own (refused (Schedule n)) = true
 is_own (refused refusal) = false
 
 abbrev pub IsOwn : (Answer → Type 0) → Answer → Type 0
@@ -88,7 +94,7 @@ abbrev pub files_of_job : Job → List (Option FileWord)
 files_of_job (Run source) = Some source ∷ []
 files_of_job (Decode set residues) = []
 files_of_job (Encode set x) = []
-files_of_job (Exec object input steps faults) = Some object ∷ (input ∷ (faults ∷ []))
+files_of_job (Exec object input steps faults schedule journal) = Some object ∷ (input ∷ (faults ∷ (schedule ∷ [])))
 files_of_job (Asm text) = Some text ∷ []
 files_of_job (Listing object) = Some object ∷ []
 files_of_job (Mean source input set steps) = Some source ∷ (input ∷ [])
@@ -101,7 +107,7 @@ takes_no_memory None = true
 takes_no_memory (Some (Run source)) = false
 takes_no_memory (Some (Decode set residues)) = true
 takes_no_memory (Some (Encode set x)) = true
-takes_no_memory (Some (Exec object input steps faults)) = false
+takes_no_memory (Some (Exec object input steps faults schedule journal)) = false
 takes_no_memory (Some (Asm text)) = false
 takes_no_memory (Some (Listing object)) = false
 takes_no_memory (Some (Mean source input set steps)) = false
@@ -169,12 +175,25 @@ stop_of_load (load.BadRecord place) = Refused (Object (kind.Record place))
 stop_of_load (load.Unsound fault) = Refused (Object (kind.Unsound fault))
 stop_of_load load.NoMemory = NoMemory
 
--- what a run of an object's program on numbers prints, in so many instructions at most, with the faults of a book
-abbrev pub run_answer : ℕ → ObjectProgram → List ℤ → Book → Answer
-run_answer steps program numbers book =
+-- what a run of an object's program on numbers prints, in so many instructions at most, with the faults of a book, and then of
+-- its journal, where that is asked for, with the turns of a schedule
+abbrev pub IsRunOf : ℕ → Bool → ObjectProgram → List ℤ → Book → List Turn → Answer → Type 0
+IsRunOf steps journal program numbers book turns answer =
     let set = set_of_name program.set in
     let trace = trace_of book set program.code program.words steps numbers in
-    lines (run_lines set trace) (run_status trace)
+    (entries : List Entry) × AreEntries (turns, entries_kept journal) book set program.words trace entries
+    × (answer ≡ lines (run_lines set trace ++ map journal_line entries) (run_status trace))
+
+-- why a job stops whose turns are refused, or found no memory
+abbrev pub stop_of_schedule : ScheduleFault → Stop
+stop_of_schedule (schedule.BadTurn n) = Refused (Schedule n)
+stop_of_schedule schedule.NoMemory = NoMemory
+
+-- turns are refused by the first word of their text that is none, and otherwise answered by what they are
+abbrev pub IsScheduleAnswer : ℕ → List ℕ → (List Turn → Answer → Type 0) → Answer → Type 0
+IsScheduleAnswer channels schedule Is answer =
+    ((number : ℕ) × IsFirstNoTurn channels schedule number × (answer ≡ refused (Schedule number)))
+    ⊎ ((turns : List Turn) × AreTurns channels schedule turns × Is turns answer)
 
 -- why a job stops whose faults are refused, or found no memory
 abbrev pub stop_of_book : BookFault → Stop
@@ -183,13 +202,20 @@ stop_of_book (book.UnknownChannel n) = Refused (Faults n)
 stop_of_book (book.Twice n) = Refused (Faults n)
 stop_of_book book.NoMemory = NoMemory
 
--- faults are refused by the first fault of their text, and otherwise the program runs with them
-abbrev pub IsProgramAnswer : ℕ → ObjectProgram → List ℕ → List ℤ → Answer → Type 0
-IsProgramAnswer steps program faults numbers answer =
-    let refusals = book_faults (length (set_of_name program.set).moduli) faults in
+-- faults are refused by the first fault of their text, and otherwise answered by their book
+abbrev pub IsFaultsAnswer : ℕ → List ℕ → (Book → Answer → Type 0) → Answer → Type 0
+IsFaultsAnswer channels faults Is answer =
+    let refusals = book_faults channels faults in
     ((fault : BookFault) × (more : List BookFault) × (refusal : Refusal) × (refusals ≡ fault ∷ more)
     × (stop_of_book fault ≡ Refused refusal) × (answer ≡ refused refusal))
-    ⊎ ((refusals ≡ []) × (answer ≡ run_answer steps program numbers (from_entries (entries_of faults))))
+    ⊎ ((refusals ≡ []) × Is (from_entries (entries_of faults)) answer)
+
+-- a program runs on numbers, with the faults and the turns of texts
+abbrev pub IsProgramAnswer : ℕ → Bool → ObjectProgram → List ℕ → List ℕ → List ℤ → Answer → Type 0
+IsProgramAnswer steps journal program faults schedule numbers answer =
+    let channels = length (set_of_name program.set).moduli in
+    IsFaultsAnswer channels faults
+    (λ book answer. IsScheduleAnswer channels schedule (IsRunOf steps journal program numbers book) answer) answer
 
 -- an object is refused by its first fault, and otherwise answered by its program
 abbrev pub IsObjectAnswer : List ℕ → (ObjectProgram → Answer → Type 0) → Answer → Type 0
@@ -198,9 +224,20 @@ IsObjectAnswer object Is answer =
     ⊎ ((load_fault object ≡ None) × Is (program_in object) answer)
 
 -- the program of an object runs on the input
-abbrev pub IsExecAnswer : ℕ → List ℕ → List ℕ → List ℕ → Answer → Type 0
-IsExecAnswer steps object input faults answer =
-    IsObjectAnswer object (λ program. IsInputAnswer input (IsProgramAnswer steps program faults)) answer
+abbrev pub IsExecAnswer : ℕ → Bool → List ℕ → List ℕ → List ℕ → List ℕ → Answer → Type 0
+IsExecAnswer steps journal object input faults schedule answer =
+    IsObjectAnswer object (λ program. IsInputAnswer input (IsProgramAnswer steps journal program faults schedule)) answer
+
+-- lines, and then those of a journal
+abbrev pub IsBeforeJournal : List (List ℕ) → List (List ℕ) → Type 0
+IsBeforeJournal front pieces = (entries : List Entry) × (pieces ≡ front ++ map journal_line entries)
+
+-- two runs print the same but for their journals
+pub record AreAlike (pieces others : List (List ℕ)) (status other_status : Status) : Type 0 where
+  pub front : List (List ℕ)
+  pub one : IsBeforeJournal front pieces
+  pub other : IsBeforeJournal front others
+  pub same : status ≡ other_status
 
 -- the listing of a program
 abbrev pub listing_of : ObjectProgram → List ℕ
@@ -237,8 +274,8 @@ IsDone (Decode set residues) texts answer =
     (verdict : Verdict) × IsVerdict (radius (set_of_name set)) None (set_of_name set) residues verdict
     × (answer ≡ lines (verdict_lines verdict) (verdict_status verdict))
 IsDone (Encode set x) texts answer = answer ≡ lines (encode_lines (set_of_name set) x) status.Ok
-IsDone (Exec object input steps faults) texts answer =
-    IsExecAnswer steps (text_at texts 0) (text_at texts 1) (text_at texts 2) answer
+IsDone (Exec object input steps faults schedule journal) texts answer =
+    IsExecAnswer steps journal (text_at texts 0) (text_at texts 1) (text_at texts 2) (text_at texts 3) answer
 IsDone (Asm text) texts answer = IsAsmAnswer (text_at texts 0) answer
 IsDone (Listing object) texts answer = IsListAnswer (text_at texts 0) answer
 IsDone (Mean source input set steps) texts answer = IsMeanAnswer set steps (text_at texts 0) (text_at texts 1) answer

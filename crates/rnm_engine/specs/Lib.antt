@@ -17,6 +17,7 @@ pub use Rattle.object_bytes.specs.Spelling
 pub use Rattle.assembler.specs.Assembly
 pub use Rattle.assembler.specs.Listing
 pub use Rattle.fault_book.specs.FaultText
+pub use Rattle.fault_book.specs.ScheduleText
 pub use Rattle.object_runs.specs.RunText
 pub use Rattle.job_endings.specs.StatusNumber
 pub use Rattle.job_endings.specs.Endings

@@ -19,11 +19,13 @@ pub fn files_of(job: &Job) -> ArrayVec<Option<FileWord>, MOST_FILES>
             object,
             input,
             faults,
+            schedule,
             ..
         } => {
             files.push(Some(*object));
             files.push(*input);
             files.push(*faults);
+            files.push(*schedule);
         }
         Job::Asm { text } => files.push(Some(*text)),
         Job::List { object } => files.push(Some(*object)),

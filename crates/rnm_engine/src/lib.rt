@@ -9,6 +9,7 @@
 mod asm;
 mod exec;
 mod files;
+mod laws;
 mod list;
 mod mean;
 mod run;
@@ -16,4 +17,5 @@ mod stops;
 mod top_call;
 
 pub use job_endings::Status;
+pub use laws::schedules_change_no_line;
 pub use top_call::rnm;

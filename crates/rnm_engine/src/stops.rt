@@ -1,9 +1,9 @@
 //! Why a job stops, by what a reader found.
 ghost use Rattle.std.specs.Prelude.{◌≡◌};
-ghost use Rattle.rnm_engine.specs.Jobs.{stop_of_assembly, stop_of_book, stop_of_load};
+ghost use Rattle.rnm_engine.specs.Jobs.{stop_of_assembly, stop_of_book, stop_of_load, stop_of_schedule};
 
 use assembler::AsmFault;
-use fault_book::BookFault;
+use fault_book::{BookFault, ScheduleFault};
 use job_endings::{AssemblyKind, ObjectKind, Refusal, Stop};
 use object_bytes::LoadFault;
 
@@ -33,6 +33,16 @@ pub fn stop_of_book(fault: BookFault) -> Stop
             Stop::Refused(Refusal::Faults(n))
         }
         BookFault::NoMemory => Stop::NoMemory,
+    }
+}
+
+/// Why a job stops whose turns are refused, or found no memory.
+pub fn stop_of_schedule(fault: ScheduleFault) -> Stop
+    ensures { result ≡ stop_of_schedule fault }
+{
+    match fault {
+        ScheduleFault::BadTurn(n) => Stop::Refused(Refusal::Schedule(n)),
+        ScheduleFault::NoMemory => Stop::NoMemory,
     }
 }
 

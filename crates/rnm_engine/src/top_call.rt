@@ -16,6 +16,7 @@ use crate::run::run;
 use command_words::{Job, job_of};
 use job_endings::{Refusal, Status, Stop, fetch_all, put_refusal};
 use moduli_sets::Moduli;
+use object_runs::RunOptions;
 use outside::{Shelf, Sink};
 use set_commands::{decode, describe, encode};
 use std::alloc::Global;
@@ -111,13 +112,17 @@ fn do_job<K: Sink>(
         Job::Run { .. } => run(alloc, text_at(texts, 0), sink),
         Job::Decode { set, residues } => Ok(decode(&Moduli::of(*set), residues, sink)),
         Job::Encode { set, x } => Ok(encode(&Moduli::of(*set), *x, sink)),
-        Job::Exec { steps, .. } => {
+        Job::Exec { steps, journal, .. } => {
             exec(
                 alloc,
                 text_at(texts, 0),
                 text_at(texts, 1),
                 text_at(texts, 2),
-                *steps,
+                text_at(texts, 3),
+                RunOptions {
+                    steps: *steps,
+                    journal: *journal,
+                },
                 sink,
             )
         }

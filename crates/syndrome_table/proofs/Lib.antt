@@ -6,6 +6,7 @@ pub mod ReadingLemmas
 pub mod ShiftLemmas
 pub mod CofactorLemmas
 pub mod FilledLemmas
+pub mod RealLemmas
 pub mod BuildLemmas
 pub mod EntryLemmas
 mod Rows

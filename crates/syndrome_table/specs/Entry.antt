@@ -1,5 +1,5 @@
 -- What an entry of the table stands for.
-use Rattle.std.specs.Prelude.{ℕ, ℤ, pos, neg_ℤ, ◌*◌, ◌+◌, ◌/◌, ◌*ℤ◌, List, [], ◌∷◌, slice_index, if◌then◌else◌}
+use Rattle.std.specs.Prelude.{ℕ, ℤ, Bool, pos, neg_ℤ, ◌*◌, ◌+◌, ◌/◌, ◌*ℤ◌, List, [], ◌∷◌, slice_index, if◌then◌else◌}
 use Rattle.number_theory.specs.Residue.{residue}
 use Rattle.moduli_sets.specs.Set.{ModuliSet, information_product}
 use Rattle.syndrome_table.specs.declared.table.Entry.{Entry}
@@ -20,9 +20,13 @@ entry_key entry = key_of (entry_triple entry)
 abbrev pub cofactor : ModuliSet → ℕ → ℕ
 cofactor set i = information_product set / slice_index set.moduli i
 
+-- so many above, or so many below, which are negative
+abbrev pub signed : ℕ → Bool → ℤ
+signed times below = if below then neg_ℤ (pos times) else pos times
+
 -- how many cofactors the wrong integer lies above the right one, negative where it lies below
 abbrev pub times_of : Entry → ℤ
-times_of entry = if entry.below then neg_ℤ (pos entry.times) else pos entry.times
+times_of entry = signed entry.times entry.below
 
 -- its error: the residue of its shift, so many cofactors, by the modulus of its channel
 abbrev pub error_of : ModuliSet → Entry → ℕ

@@ -9,7 +9,9 @@
 
 mod build;
 mod laws;
+mod pass;
 mod steps;
+mod stride;
 mod syndromes;
 mod table;
 mod triple;

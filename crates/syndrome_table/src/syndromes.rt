@@ -8,7 +8,8 @@ ghost use Rattle.syndrome_table.specs.Entry.{entry_key};
 ghost use Rattle.syndrome_table.specs.Table.{Ascends, IsComplete, IsEntry, shift_of};
 
 use crate::Steps;
-use crate::build::{add_channel, cofactors_of, information_product_of};
+use crate::build::{cofactors_of, information_product_of};
+use crate::pass::Pass;
 use crate::table::{Entry, place_of};
 use crate::triple::{alone, information_of, key_of_triple, triple_of_vector};
 use moduli_sets::{Moduli, Vector};
@@ -32,7 +33,7 @@ pub struct Syndromes {
 }
 
 impl Syndromes {
-    /// The table of a set: the entries of its channels one after another, and then sorted.
+    /// The table of a set: its entries in the order of their first residues, and then sorted.
     pub fn build(alloc: Global, set: &Moduli) -> Result<Syndromes, AllocError>
         ensures set { IfOk result (λ built. ⟦<Syndromes as Decoder>⟧.set built ≡ set_of set.now) }
         ensures entries { IfOk result (λ built. AreSyndromes (set_of set.now) built.table.items) }
@@ -40,9 +41,10 @@ impl Syndromes {
         set.rules();
         let product = information_product_of(set);
         let cofactors = cofactors_of(set, product);
+        let pass = Pass::new(set, &cofactors);
         let mut table = Vec::new(alloc);
-        for i in 0..set.info() {
-            add_channel(set, i, &cofactors, &mut table)?;
+        for first in 0..set.modulus(set.info()) {
+            pass.add_first(first, &mut table)?;
         }
         table.sort_by_key(|entry| entry.key())?;
         Ok(Syndromes {

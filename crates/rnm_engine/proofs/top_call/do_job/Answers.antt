@@ -6,4 +6,4 @@ returns-in-Mean-clause-answer g c =
 
 pub returns-in-Exec-clause-answer : goal.returns-in-Exec-clause-answer
 returns-in-Exec-clause-answer g c =
-    rw c.in-Exec.is (rw (c.text_at-in-Exec.ensures.value, c.text_at-in-Exec-2.ensures.value, c.text_at-in-Exec-3.ensures.value) at c.exec.ensures)
+    rw c.in-Exec.is (rw (c.text_at-in-Exec.ensures.value, c.text_at-in-Exec-2.ensures.value, c.text_at-in-Exec-3.ensures.value, c.text_at-in-Exec-4.ensures.value) at c.exec.ensures)

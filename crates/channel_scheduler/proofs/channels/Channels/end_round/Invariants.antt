@@ -1,0 +1,11 @@
+use Rattle.std.proofs.Common.{◌≤◌, length}
+use Rattle.channel_scheduler.specs.Channels.{RunsWhile, must_wait}
+use Rattle.channel_scheduler.proofs.KeepingLemmas.{remaining}
+use Rattle.channel_scheduler.proofs.channels.Channels.end_round.Given as goal
+
+-- the turns so far
+abbrev pub invariant-loop-self : goal.invariant-loop-self
+invariant-loop-self g l = record { run : RunsWhile must_wait l.faults l.initial.self l.self; rounds : length l.self.schedule ≤ l.self.used }
+
+abbrev pub decreases-loop-self : goal.decreases-loop-self
+decreases-loop-self g l = remaining l.self
