@@ -1,0 +1,13 @@
+pub mod RowsBasis
+pub mod RowsExpressions
+pub mod RowsScaling
+pub mod RowsStatements
+pub mod RowsChoices
+pub mod RowsLoops
+pub mod RowsProcedures
+pub mod RowsDepth
+pub mod RowsRefusals
+pub mod CodeLengths
+pub mod StatementLengths
+pub mod Jumps
+pub mod StatementJumps
